@@ -1,0 +1,3 @@
+-- The definitions of names and directories, for every crate above.
+pub mod Names
+pub mod Segments

@@ -4,8 +4,10 @@
 mod bytes;
 mod memory;
 mod name;
+mod names;
 mod sharing;
 
 pub use bytes::Bytes;
 pub use memory::NoMemory;
 pub use name::Name;
+pub use names::{MOST_NAME_BYTES, Named, holds_folder_of, is_relative_name};

@@ -1,0 +1,3 @@
+-- Lemmas on the rules of names.
+pub mod Folders
+pub mod Plain
