@@ -1,0 +1,11 @@
+-- What a shelf and a sink tell, and what their calls promise.
+pub mod Calls
+pub mod Causes
+pub mod Listing
+pub mod Pieces
+pub mod Report
+pub mod Store
+pub mod StoreOf
+pub mod StoreTold
+pub mod Told
+pub use Rattle.cook_bits.specs.Names

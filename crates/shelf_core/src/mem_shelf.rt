@@ -1,0 +1,183 @@
+ghost use Rattle.std.specs.Prelude.{◌≡◌, ◌↔◌, ◌/◌, ◌≤◌, [], length, take, None, Some, IfOk, OnOk, OnErr};
+ghost use Rattle.shelf_core.specs.Store.{IsAscending, told_of};
+
+use crate::calls::Calls;
+use crate::store::Store;
+use crate::{CreateError, Entry, Shelf, ShelfError};
+use cook_bits::{Bytes, Name};
+use std::alloc::Global;
+
+/// A shelf in memory that tells its files, and that fails at the calls that it is told to fail at.
+///
+/// Each call of [`Shelf`] counts one, from 1 on. It answers `Failed` exactly where its number is one of those that were
+/// named at the making.
+#[derive(Drop)]
+pub struct MemShelf {
+    store: Store,
+    calls: Calls,
+}
+
+impl MemShelf {
+    /// Holds files whose names rise byte by byte, none of them unsealed. It takes no memory.
+    pub fn new(alloc: Global, files: Vec<(Name, Bytes)>, fail_calls: Vec<u32>) -> MemShelf
+        requires { IsAscending files.items }
+        ensures files { ⟦<MemShelf as Shelf>⟧.files result ≡ told_of files.items }
+        ensures unsealed { ⟦<MemShelf as Shelf>⟧.unsealed result ≡ Some [] }
+        ensures counts { (⟦<MemShelf as Shelf>⟧.faults result ≡ 0) × (⟦<MemShelf as Shelf>⟧.starved result ≡ 0) }
+        ensures calls { (result.calls.made ≡ 0) × (result.calls.failing.items ≡ fail_calls.items) }
+    {
+        MemShelf {
+            store: Store::new(alloc, files),
+            calls: Calls::new(fail_calls),
+        }
+    }
+
+    /// The files, in byte order of names.
+    pub fn files(&self) -> &[(Name, Bytes)]
+        ensures told { ⟦<MemShelf as Shelf>⟧.files self.now ≡ told_of result.now }
+        ensures ascending { IsAscending result.now }
+    {
+        self.store.files()
+    }
+
+    /// The names of the files that were created and not sealed since, in order of creation.
+    pub fn unsealed(&self) -> &[Name]
+        ensures { ⟦<MemShelf as Shelf>⟧.unsealed self.now ≡ Some result.now }
+    {
+        self.store.unsealed()
+    }
+}
+
+impl Shelf for MemShelf {
+    ghost use Rattle.std.specs.Prelude.{ℕ, List, Option};
+    ghost use Rattle.shelf_core.specs.Calls.{IsListed, Counted};
+    ghost use Rattle.shelf_core.specs.Causes.{HasCause, Rose};
+    ghost use Rattle.shelf_core.specs.Listing.{plain_entries};
+    ghost use Rattle.shelf_core.specs.Told.{Files, IsTold, HasFile, IsFree, content, length_of, with_file, grown, under, GrewPartly, IsRead, IsPending, IsAtRest, with_pending, without_pending};
+    ghost use Rattle.shelf_core.specs.StoreOf.{told_files, told_unsealed};
+    ghost use Rattle.shelf_core.specs.StoreTold.{pending-has, told-is_some};
+
+    ghost files = { λ shelf. told_files shelf.store };
+
+    ghost unsealed = { λ shelf. told_unsealed shelf.store };
+
+    ghost faults = { λ shelf. shelf.calls.faults };
+
+    ghost starved = { λ shelf. shelf.store.starved };
+
+    fn list(&mut self, root: &str) -> Result<Vec<Entry>, ShelfError>
+        ensures listed { IfOk result (λ entries. IsTold (told_files self.old.store) → entries.items ≡ plain_entries (under (told_files self.old.store) root.now)) }
+        ensures files { told_files self.new.store ≡ told_files self.old.store }
+        ensures unsealed { told_unsealed self.new.store ≡ told_unsealed self.old.store }
+        ensures cause { HasCause ShelfError.Failed ShelfError.NoMemory self.old.calls.faults self.new.calls.faults self.old.store.starved self.new.store.starved result }
+        ensures failed { (result ≡ Err ShelfError.Failed) ↔ IsListed self.old.calls }
+        ensures counted { Counted self.old.calls self.new.calls }
+    {
+        if self.calls.count() {
+            return Err(ShelfError::Failed);
+        }
+        self.store.list(root)
+    }
+
+    fn len(&mut self, name: &str) -> Result<Option<u64>, ShelfError>
+        ensures length { IfOk result (λ len. IsTold (told_files self.old.store) → len ≡ length_of (told_files self.old.store) name.now) }
+        ensures files { told_files self.new.store ≡ told_files self.old.store }
+        ensures unsealed { told_unsealed self.new.store ≡ told_unsealed self.old.store }
+        ensures cause { HasCause ShelfError.Failed ShelfError.NoMemory self.old.calls.faults self.new.calls.faults self.old.store.starved self.new.store.starved result }
+        ensures failed { (result ≡ Err ShelfError.Failed) ↔ IsListed self.old.calls }
+        ensures counted { Counted self.old.calls self.new.calls }
+    {
+        if self.calls.count() {
+            return Err(ShelfError::Failed);
+        }
+        Ok(self.store.len(name))
+    }
+
+    fn read_at(&mut self, name: &str, at: u64, buf: &mut [u8]) -> Result<usize, ShelfError>
+        requires { HasFile (told_files self.old.store) name.now }
+        ensures within { IfOk result (λ count. count ≤ length buf.old) }
+        ensures read { IfOk result (λ count. IsTold (told_files self.old.store) → IsRead (content (told_files self.old.store) name.now) at (length buf.old) buf.new count) }
+        ensures files { told_files self.new.store ≡ told_files self.old.store }
+        ensures unsealed { told_unsealed self.new.store ≡ told_unsealed self.old.store }
+        ensures cause { HasCause ShelfError.Failed ShelfError.NoMemory self.old.calls.faults self.new.calls.faults self.old.store.starved self.new.store.starved result }
+        ensures failed { (result ≡ Err ShelfError.Failed) ↔ IsListed self.old.calls }
+        ensures counted { Counted self.old.calls self.new.calls }
+    {
+        if self.calls.count() {
+            return Err(ShelfError::Failed);
+        }
+        Ok(self.store.read_at(name, at, buf))
+    }
+
+    fn create(&mut self, name: &str) -> Result<(), CreateError>
+        ensures free { OnOk result (IsFree (told_files self.old.store) name.now) }
+        ensures at_rest { OnOk result (IsAtRest (told_unsealed self.old.store) name.now) }
+        ensures created { OnOk result (told_files self.new.store ≡ with_file (told_files self.old.store) name.now []) }
+        ensures pending { OnOk result (told_unsealed self.new.store ≡ with_pending (told_unsealed self.old.store) name.now) }
+        ensures exists { result ≡ Err CreateError.Exists → HasFile (told_files self.old.store) name.now }
+        ensures in_the_way { HasFile (told_files self.old.store) name.now → (IsListed self.old.calls → ⊥) → result ≡ Err CreateError.Exists }
+        ensures files_kept { OnErr result (told_files self.new.store ≡ told_files self.old.store) }
+        ensures unsealed_kept { OnErr result (told_unsealed self.new.store ≡ told_unsealed self.old.store) }
+        ensures cause { HasCause CreateError.Failed CreateError.NoMemory self.old.calls.faults self.new.calls.faults self.old.store.starved self.new.store.starved result }
+        ensures failed { (result ≡ Err CreateError.Failed) ↔ IsListed self.old.calls }
+        ensures counted { Counted self.old.calls self.new.calls }
+    {
+        if self.calls.count() {
+            return Err(CreateError::Failed);
+        }
+        self.store.create(name)
+    }
+
+    /// It only counts: a shelf in memory has no folders.
+    fn make_folder(&mut self, name: &str) -> Result<(), ShelfError>
+        ensures files { told_files self.new.store ≡ told_files self.old.store }
+        ensures unsealed { told_unsealed self.new.store ≡ told_unsealed self.old.store }
+        ensures cause { HasCause ShelfError.Failed ShelfError.NoMemory self.old.calls.faults self.new.calls.faults self.old.store.starved self.new.store.starved result }
+        ensures failed { (result ≡ Err ShelfError.Failed) ↔ IsListed self.old.calls }
+        ensures counted { Counted self.old.calls self.new.calls }
+    {
+        let _ = name;
+        if self.calls.count() {
+            return Err(ShelfError::Failed);
+        }
+        Ok(())
+    }
+
+    /// A listed call adds the first half of the bytes, rounded down, where no growth is refused.
+    fn append(&mut self, name: &str, bytes: &[u8]) -> Result<(), ShelfError>
+        requires { IsPending (told_unsealed self.old.store) name.now }
+        ensures ok { OnOk result (told_files self.new.store ≡ grown (told_files self.old.store) name.now bytes.now) }
+        ensures err { OnErr result (GrewPartly (told_files self.old.store) name.now bytes.now (told_files self.new.store)) }
+        ensures half { result ≡ Err ShelfError.Failed → (Rose self.old.store.starved self.new.store.starved → ⊥) → told_files self.new.store ≡ grown (told_files self.old.store) name.now (take (length bytes.now / 2) bytes.now) }
+        ensures unsealed { told_unsealed self.new.store ≡ told_unsealed self.old.store }
+        ensures cause { HasCause ShelfError.Failed ShelfError.NoMemory self.old.calls.faults self.new.calls.faults self.old.store.starved self.new.store.starved result }
+        ensures failed { (result ≡ Err ShelfError.Failed) ↔ IsListed self.old.calls }
+        ensures counted { Counted self.old.calls self.new.calls }
+    {
+        if self.calls.count() {
+            let _ = self.store.append(name, &bytes[..bytes.len() / 2]);
+            return Err(ShelfError::Failed);
+        }
+        self.store.append(name, bytes)
+    }
+
+    fn seal(&mut self, name: &str) -> Result<(), ShelfError>
+        requires { IsPending (told_unsealed self.old.store) name.now }
+        ensures files { told_files self.new.store ≡ told_files self.old.store }
+        ensures sealed { OnOk result (told_unsealed self.new.store ≡ without_pending (told_unsealed self.old.store) name.now) }
+        ensures unsealed_kept { OnErr result (told_unsealed self.new.store ≡ told_unsealed self.old.store) }
+        ensures cause { HasCause ShelfError.Failed ShelfError.NoMemory self.old.calls.faults self.new.calls.faults self.old.store.starved self.new.store.starved result }
+        ensures failed { (result ≡ Err ShelfError.Failed) ↔ IsListed self.old.calls }
+        ensures counted { Counted self.old.calls self.new.calls }
+    {
+        if self.calls.count() {
+            return Err(ShelfError::Failed);
+        }
+        self.store.seal(name);
+        Ok(())
+    }
+
+    ghost told_together = { λ shelf. told-is_some shelf.store.files.items };
+
+    ghost pending_is_there = { λ shelf name told pending. pending-has _ _ _ shelf.store.ascending shelf.store.there pending };
+}

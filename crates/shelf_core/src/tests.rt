@@ -1,0 +1,136 @@
+ghost use Rattle.std.specs.Prelude.{OnOk};
+ghost use Rattle.shelf_core.specs.Told.{HasFile};
+
+use crate::{CalmShelf, CreateError, MemShelf, MemSink, Shelf, ShelfError, Sink, SinkFailed};
+use cook_bits::{Bytes, Name};
+use std::process::Abort;
+use std::test::Fail;
+
+// Makes a file of five bytes in two pieces, and seals it.
+#[tactic(auto, using(crate::proofs::FileLaws::file_laws))]
+fn write_five<S: Shelf>(shelf: &mut S, name: &str) -> Result<(), Fail>
+    ensures { OnOk result (HasFile (S.files shelf.new) name.now) }
+{
+    shelf.make_folder("d")?;
+    shelf.create(name)?;
+    shelf.append(name, b"abc")?;
+    shelf.append(name, b"de")?;
+    shelf.seal(name)?;
+    Ok(())
+}
+
+// Reads these five bytes back in two pieces.
+fn read_five<S: Shelf>(rt: &impl Abort, shelf: &mut S, name: &str) -> Result<(), Fail>
+    requires { HasFile (S.files shelf.old) name.now }
+{
+    let mut piece = [0u8; 4];
+    assert_eq!(rt; shelf.read_at(name, 0, &mut piece)?, 4);
+    assert_eq!(rt; piece, *b"abcd");
+    assert_eq!(rt; shelf.read_at(name, 3, &mut piece)?, 2);
+    assert_eq!(rt; piece, *b"decd");
+    Ok(())
+}
+
+// A file is made once, is read back, and is listed under its folder alone.
+fn keeps_a_file<S: Shelf>(rt: &impl Abort, shelf: &mut S) -> Result<(), Fail> {
+    write_five(shelf, "d/f")?;
+    read_five(rt, shelf, "d/f")?;
+    assert_eq!(rt; shelf.create("d/f"), Err(CreateError::Exists));
+    assert_eq!(rt; shelf.len("d/f")?, Some(5));
+    assert_eq!(rt; shelf.len("d")?, None);
+    for (root, count) in [("d", 1), ("d/f", 0), ("", 0)] {
+        assert_eq!(rt; shelf.list(root)?.len(), count, "under {root:?}");
+    }
+    Ok(())
+}
+
+// Makes a file, and answers what the first append to it answers.
+#[tactic(auto, using(crate::proofs::FileLaws::file_laws))]
+fn first_append<S: Shelf>(
+    shelf: &mut S,
+    name: &str,
+    bytes: &[u8],
+) -> Result<Result<(), ShelfError>, CreateError> {
+    shelf.create(name)?;
+    Ok(shelf.append(name, bytes))
+}
+
+fn write_all<O: Sink>(rt: &impl Abort, sink: &mut O) {
+    for (bytes, answer) in [
+        ("ab", Ok(())),
+        ("c", Err(SinkFailed)),
+        ("cd", Ok(())),
+        ("e", Err(SinkFailed)),
+        ("", Ok(())),
+    ] {
+        assert_eq!(rt; sink.write(bytes.as_bytes()), answer, "at {bytes:?}");
+    }
+}
+
+#[test]
+fn a_mem_shelf_keeps_a_file(rt: HostRuntime) -> Result<(), Fail> {
+    let files = vec![in rt.alloc(); (Name::copy(rt.alloc(), "a")?, Bytes::new(rt.alloc()))]?;
+    let mut shelf = MemShelf::new(rt.alloc(), files, Vec::new(rt.alloc()));
+    keeps_a_file(&rt, &mut shelf)?;
+    assert_eq!(rt; shelf.files().len(), 2);
+    assert_eq!(rt; shelf.unsealed().len(), 0);
+    Ok(())
+}
+
+#[test]
+fn a_calm_shelf_keeps_a_file(rt: HostRuntime) -> Result<(), Fail> {
+    let files = vec![in rt.alloc(); (Name::copy(rt.alloc(), "a")?, Bytes::new(rt.alloc()))]?;
+    let mut shelf = CalmShelf::new(rt.alloc(), files);
+    keeps_a_file(&rt, &mut shelf)?;
+    assert_eq!(rt; shelf.files().len(), 2);
+    assert_eq!(rt; shelf.unsealed().len(), 0);
+    Ok(())
+}
+
+// `!` is byte 33, `/` 47 and `0` 48.
+#[test]
+fn files_stand_in_byte_order_and_unsealed_names_in_order_of_creation(
+    rt: HostRuntime,
+) -> Result<(), Fail> {
+    let mut shelf = CalmShelf::new(rt.alloc(), Vec::new(rt.alloc()));
+    for name in ["a0", "a/b", "a!"] {
+        shelf.create(name)?;
+    }
+    for (file, name) in shelf.files().iter().zip(["a!", "a/b", "a0"]) {
+        assert_eq!(rt; file.0.as_str(), name);
+    }
+    for (pending, name) in shelf.unsealed().iter().zip(["a0", "a/b", "a!"]) {
+        assert_eq!(rt; pending.as_str(), name);
+    }
+    let entries = shelf.list("a")?;
+    assert_eq!(rt; entries.len(), 1);
+    assert_eq!(rt; entries[0].name.as_str(), "b");
+    Ok(())
+}
+
+#[test]
+fn a_listed_call_fails_and_half_of_its_bytes_stand(rt: HostRuntime) -> Result<(), Fail> {
+    let mut shelf = MemShelf::new(rt.alloc(), Vec::new(rt.alloc()), vec![in rt.alloc(); 1, 3]?);
+    assert_eq!(rt;
+        first_append(&mut shelf, "a", b"abcde"),
+        Err(CreateError::Failed)
+    );
+    assert_eq!(rt; shelf.files().len(), 0);
+    assert_eq!(rt;
+        first_append(&mut shelf, "a", b"abcde")?,
+        Err(ShelfError::Failed)
+    );
+    assert_eq!(rt; shelf.unsealed().len(), 1);
+    let files = shelf.files();
+    assert_eq!(rt; files.len(), 1);
+    assert_eq!(rt; files[0].1.as_slice(), b"ab".as_slice());
+    Ok(())
+}
+
+#[test]
+fn a_mem_sink_fails_at_listed_writes_and_past_its_capacity(rt: HostRuntime) -> Result<(), Fail> {
+    let mut sink = MemSink::new(rt.alloc(), 4, vec![in rt.alloc(); 2]?)?;
+    write_all(&rt, &mut sink);
+    assert_eq!(rt; sink.bytes(), b"abcd".as_slice());
+    Ok(())
+}
