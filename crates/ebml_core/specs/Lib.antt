@@ -1,0 +1,4 @@
+pub mod Element
+pub mod Laws
+pub mod Rate
+pub mod Reading
