@@ -1,0 +1,7 @@
+pub mod Found
+pub mod Lengths
+pub mod Loop
+pub mod NameFaults
+pub mod NamesFound
+pub mod Round
+pub mod Texts

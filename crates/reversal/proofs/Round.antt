@@ -1,0 +1,141 @@
+-- What was written is read again.
+use Rattle.std.proofs.Common.{◌≡◌, ℕ, zero, suc, ◌+◌, ◌^◌, ◌<◌, Bool, true, false, ◌&&◌, ◌||◌, not, nat_lt, List, [], ◌∷◌, ◌++◌, length, get_or, take, drop, All, None, Ok, IsUtf8, refl, sym, ap, subst, ◌∙◌, append_assoc, length-append, arith}
+use Rattle.std.specs.List.{flat_map, list_any, AllByRecursion}
+use Rattle.std.specs.Int.{bytes_high_first}
+use Rattle.std.specs.Ordering.{nat_cmp, is_lt}
+use Rattle.std.specs.declared.cmp.Ordering.TheVariants.{Less}
+use Rattle.std.specs.Cmp.Lexicographic.{slice_cmp}
+use Rattle.std.proofs.lemmas.Bool.{le-ltb}
+use Rattle.std.proofs.lemmas.List.{take_at, drop_at, append-nil, take-append-drop, length-take, get_or-take, get_or_default}
+use Rattle.std.proofs.lemmas.List.Concat.{flat_map-cons}
+use Rattle.std.proofs.lemmas.List.Elements.{recursion_from_All}
+use Rattle.std.proofs.lemmas.List.Folds.{list_any-append}
+use Rattle.byteorder.specs.Endian.{big_number}
+use Rattle.byteorder.specs.Numbers.{big_number-reads_back, length-bytes_high_first}
+use Rattle.cook_bits.specs.Names.{is_relative_name, is_same_name, holds_folder_of, proper_folders_of}
+use Rattle.reversal.specs.declared.record.Kind.TheVariants.{Other}
+use Rattle.reversal.specs.declared.record.FileRecord.{FileRecord}
+use Rattle.reversal.specs.SideData.{names_of, mark, record_bytes, side_data_of, HasShape, FitsTypes, AreNames, AreRecords}
+use Rattle.reversal.specs.SideReading.{piece_at, number_at, name_at, other_record, record_at, records_at, mark_at, side_at, side_read, is_above_last, is_good_name, first_bad_name}
+use Rattle.reversal.proofs.Texts.{good_text}
+use Rattle.reversal.proofs.NameFaults.{last_decides, bad_from, bad_start, bad_later, bad_end, map_append}
+
+-- ---- fields
+
+piece_again : (left : ℕ) (text rest : List ℕ) (len : ℕ) → length text ≡ len → piece_at left len (text ++ rest) ≡ Ok (text, rest)
+piece_again left text rest len e =
+    let long : nat_lt (length (text ++ rest)) len ≡ false = le-ltb _ _ (omega (arith, length-append text rest)) in
+    rw (long, take_at text rest len e, drop_at text rest len e) refl
+
+number_again : (len n : ℕ) (rest : List ℕ) → n < 256 ^ len → number_at len (bytes_high_first len n ++ rest) ≡ Ok (n, rest)
+number_again len n rest lt =
+    let back : big_number len (bytes_high_first len n) ≡ n = ap (big_number len) (sym (append-nil (bytes_high_first len n))) ∙ big_number-reads_back len n [] lt in
+    rw (piece_again (length (bytes_high_first len n ++ rest)) (bytes_high_first len n) rest len (length-bytes_high_first len n), back) refl
+
+name_again : (name rest : List ℕ) → length name < 2 ^ 16 → IsUtf8 name → name_at (bytes_high_first 2 (length name) ++ (name ++ rest)) ≡ Ok (name, rest)
+unfolding name_at
+name_again name rest lt text =
+    let left = length (bytes_high_first 2 (length name) ++ (name ++ rest)) in
+    rw (number_again 2 (length name) (name ++ rest) lt, piece_again left name rest (length name) refl, good_text left name text) refl
+
+same_record : (r : FileRecord) → HasShape r → other_record r.name Other r.length r.md5 ≡ r
+same_record r shape = λ i. record { name = r.name; kind = sym shape.other i; length = r.length; md5 = r.md5; head = sym shape.no_head i; pads = sym shape.no_pads i; tail = sym shape.no_tail i }
+
+record_again : (r : FileRecord) (rest : List ℕ) → HasShape r → FitsTypes r → record_at (record_bytes r ++ rest) ≡ Ok (r, rest)
+unfolding record_at
+record_again r rest shape fits =
+    let len = bytes_high_first 8 r.length in
+    let size = bytes_high_first 2 (length r.name) in
+    let regrouped : record_bytes r ++ rest ≡ 0 ∷ (size ++ (r.name ++ (len ++ (r.md5 ++ rest)))) = ap (λ (x : List ℕ). 0 ∷ x) (simp append_assoc) in
+    ap record_at regrouped
+    ∙ rw (name_again r.name (len ++ (r.md5 ++ rest)) shape.in_two fits.text, number_again 8 r.length (r.md5 ++ rest) fits.in_eight, piece_again (length (r.md5 ++ rest)) r.md5 rest 16 fits.sixteen) (ap (λ (x : FileRecord). Ok (x, rest)) (same_record r shape))
+
+records_again : (records : List FileRecord) (rest : List ℕ) → AllByRecursion HasShape records → AllByRecursion FitsTypes records → records_at (length records) (flat_map record_bytes records ++ rest) ≡ Ok (records, rest)
+unfolding records_at
+records_again [] rest shaped fits = refl
+records_again (r ∷ records) rest shaped fits =
+    let regrouped : flat_map record_bytes (r ∷ records) ++ rest ≡ record_bytes r ++ (flat_map record_bytes records ++ rest) = ap (λ (x : List ℕ). x ++ rest) (flat_map-cons record_bytes r records) ∙ append_assoc (record_bytes r) (flat_map record_bytes records) rest in
+    ap (records_at (suc (length records))) regrouped ∙ rw (record_again r (flat_map record_bytes records ++ rest) shaped.0 fits.0, records_again records rest shaped.1 fits.1) refl
+
+mark_again : (rest : List ℕ) → mark_at (mark ++ rest) ≡ Ok rest
+mark_again rest = rw (piece_again (length (mark ++ rest)) mark rest 8 refl) refl
+
+side_again : (records : List FileRecord) → AreRecords records → All FitsTypes records → side_at (side_data_of records) ≡ Ok records
+unfolding side_at side_data_of
+side_again records are fits =
+    let count = bytes_high_first 4 (length records) in
+    let spelled = flat_map record_bytes records in
+    let regrouped : (mark ++ count) ++ spelled ≡ mark ++ (count ++ spelled) = append_assoc mark count spelled in
+    let rest : records_at (length records) spelled ≡ Ok (records, []) = ap (records_at (length records)) (sym (append-nil spelled)) ∙ records_again records [] (recursion_from_All HasShape records are.shaped) (recursion_from_All FitsTypes records fits) in
+    ap side_at regrouped ∙ rw (mark_again (count ++ spelled), number_again 4 (length records) spelled are.few, rest) refl
+
+-- ---- names
+
+or_false : (a b : Bool) → (a || b) ≡ false → a ≡ false
+or_false true b e = e
+or_false false b e = refl
+
+or_false_last : (a b : Bool) → (a || b) ≡ false → b ≡ false
+or_false_last true b e = absurd (cc)
+or_false_last false b e = e
+
+both_false : (a b : Bool) → a ≡ false → b ≡ false → (a || b) ≡ false
+both_false a b e f = rw (e, f) refl
+
+fewer : (xs ys folders : List (List ℕ)) → list_any (λ folder. list_any (is_same_name folder) (xs ++ ys)) folders ≡ false → list_any (λ folder. list_any (is_same_name folder) xs) folders ≡ false
+fewer xs ys [] e = refl
+fewer xs ys (folder ∷ folders) e =
+    let here = or_false (list_any (is_same_name folder) (xs ++ ys)) _ e in
+    both_false _ _ (or_false _ _ (sym (list_any-append (is_same_name folder) xs ys) ∙ here)) (fewer xs ys folders (or_false_last (list_any (is_same_name folder) (xs ++ ys)) _ e))
+
+fewer_hold : (xs ys : List (List ℕ)) (name : List ℕ) → holds_folder_of (xs ++ ys) name ≡ false → holds_folder_of xs name ≡ false
+unfolding holds_folder_of
+fewer_hold xs ys name free = fewer xs ys (proper_folders_of name) free
+
+name_at_place : (records : List FileRecord) (at : ℕ) (d : FileRecord) → get_or (names_of records) at d.name ≡ (get_or records at d).name
+name_at_place [] at d = refl
+name_at_place (r ∷ records) zero d = refl
+name_at_place (r ∷ records) (suc at) d = name_at_place records at d
+
+names_long : (records : List FileRecord) → length (names_of records) ≡ length records
+names_long [] = refl
+names_long (r ∷ records) = ap suc (names_long records)
+
+all_good : (a b c : Bool) → a ≡ true → b ≡ true → c ≡ false → (a && (b && not c)) ≡ true
+all_good a b c e f g = rw (e, f, g) refl
+
+is_above : (records : List FileRecord) (at : ℕ) (d : FileRecord) → AreNames (names_of records) → at < length records → is_above_last (names_of (take at records)) (get_or records at d).name ≡ true
+is_above records zero d are lt = refl
+is_above records (suc k) d are lt =
+    let last = get_or records k d in
+    let long : k + 1 ≡ length (take (suc k) records) = omega (arith, length-take (suc k) records) in
+    let same : last ≡ get_or (take (suc k) records) k last = get_or_default records k d last (omega arith) ∙ sym (get_or-take (suc k) records k last (omega arith)) in
+    let next : suc k ≡ k + 1 = omega arith in
+    let rise = are.ascending k d.name (omega (arith, names_long records)) in
+    let rise' : slice_cmp nat_cmp last.name (get_or records (k + 1) d).name ≡ Less = subst (λ (x : List ℕ). slice_cmp nat_cmp x (get_or records (k + 1) d).name ≡ Less) (name_at_place records k d) (subst (λ (x : List ℕ). slice_cmp nat_cmp (get_or (names_of records) k d.name) x ≡ Less) (name_at_place records (k + 1) d) rise) in
+    let rise'' : slice_cmp nat_cmp last.name (get_or records (suc k) d).name ≡ Less = subst (λ (n : ℕ). slice_cmp nat_cmp last.name (get_or records n d).name ≡ Less) (sym next) rise' in
+    last_decides (take (suc k) records) k last (get_or records (suc k) d).name long same ∙ ap is_lt rise''
+
+is_good : (records : List FileRecord) (at : ℕ) (d : FileRecord) → AreNames (names_of records) → at < length records → is_good_name (names_of (take at records)) (get_or records at d).name ≡ true
+is_good records at d are lt =
+    let within : at < length (names_of records) = omega (arith, names_long records) in
+    let relative = subst (λ (x : List ℕ). is_relative_name x ≡ true) (name_at_place records at d) (are.relative at d.name within) in
+    let apart = subst (λ (x : List ℕ). holds_folder_of (names_of records) x ≡ false) (name_at_place records at d) (are.apart at d.name within) in
+    let parts : names_of records ≡ names_of (take at records) ++ names_of (drop at records) = ap names_of (sym (take-append-drop at records)) ∙ map_append (take at records) (drop at records) in
+    let free = fewer_hold (names_of (take at records)) (names_of (drop at records)) (get_or records at d).name (subst (λ (names : List (List ℕ)). holds_folder_of names (get_or records at d).name ≡ false) parts apart) in
+    all_good _ _ _ relative (is_above records at d are lt) free
+
+nothing : FileRecord
+nothing = other_record [] Other 0 []
+
+none_from : (records : List FileRecord) (more at : ℕ) → AreNames (names_of records) → at + more ≡ length records → bad_from records at ≡ None
+none_from records zero at are e = bad_end records at (omega arith)
+none_from records (suc more) at are e =
+    let lt : at < length records = omega arith in
+    bad_later records at (get_or records at nothing) lt (get_or_default records at nothing (get_or records at nothing) lt) (is_good records at nothing are lt) ∙ none_from records more (at + 1) are (omega arith)
+
+pub read_again : (records : List FileRecord) → AreRecords records → All FitsTypes records → side_read (side_data_of records) ≡ Ok records
+unfolding side_read
+read_again records are fits =
+    let no_fault : first_bad_name (names_of records) ≡ None = sym (bad_start records) ∙ none_from records (length records) 0 are.named (omega arith) in
+    rw (side_again records are fits, no_fault) refl

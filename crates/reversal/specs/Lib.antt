@@ -1,0 +1,4 @@
+-- The side data of a package, as it is spelled and as it is read.
+pub mod SideData
+pub mod SideReading
+pub use Rattle.cook_bits.specs.Names

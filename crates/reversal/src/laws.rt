@@ -1,0 +1,16 @@
+//! What holds of the definitions of side data, whatever the records.
+
+ghost use Rattle.std.specs.Prelude.{◌≡◌, List, All, Ok, length};
+ghost use Rattle.reversal.specs.declared.record.FileRecord.{FileRecord as Recorded};
+ghost use Rattle.reversal.specs.SideData.{AreRecords, FitsTypes, HasSum, names_of, side_data_len, side_data_of};
+ghost use Rattle.reversal.specs.SideReading.{side_read};
+
+/// The side data of records of their shape, with names in order, is read as these records.
+pub fn n8()
+    ensures { (records : List Recorded) → AreRecords records → All FitsTypes records → side_read (side_data_of records) ≡ Ok records }
+{}
+
+/// The length of side data follows from the names alone.
+pub fn side_data_length()
+    ensures { (records : List Recorded) → All HasSum records → length (side_data_of records) ≡ side_data_len (names_of records) }
+{}
