@@ -1,0 +1,43 @@
+-- Laws of an attachment that is appended in two pieces.
+use Rattle.std.proofs.Common.{◌≡◌, ℕ, Bool, List, ◌++◌, ◌≤◌, length, arith, Result, Ok, Err, OnErr, sym, ap, ◌∙◌}
+use Rattle.shelf_core.specs.Told.{Told, IsTold, content, grown, GrewPartly, IsApart}
+use Rattle.shelf_core.proofs.PieceLaws.{grown-if_told, GrewPartly-first, GrewPartly-second, content-while_grown}
+use Rattle.cook_pack.specs.Stops.{StopsFor}
+use Rattle.cook_pack.specs.declared.error.PackError.{PackError}
+use Rattle.cook_pack.specs.declared.error.PackError.TheVariants.{Refused, InTheWay, Changed, Missing, Failed, NoMemory}
+use Rattle.cook_pack.specs.Pieces.{attached_head, attached_file}
+use Rattle.cook_pack.proofs.PieceLaws.{attached_file-is}
+
+pub attached-whole : (told : Told) (name from : List ℕ) (side : Bool) (uid len : ℕ) → (IsTold told → len ≡ length (content told from)) → IsTold told
+    → attached_head name side uid len ++ content told from ≡ attached_file name side uid (content told from)
+attached-whole told name from side uid len measured known =
+    ap (λ n. attached_head name side uid n ++ content told from) (measured known) ∙ sym (attached_file-is name side uid (content told from))
+
+-- it stopped inside the head
+pub stopped_in_head : (told after : Told) (to name from head : List ℕ) (side : Bool) (uid len : ℕ) → (IsTold told → len ≡ length (content told from)) → head ≡ attached_head name side uid len
+    → GrewPartly told to head after → GrewPartly told to (attached_file name side uid (content told from)) after
+stopped_in_head told after to name from head side uid len measured is part =
+    GrewPartly-first told after to _ head (content told from) (λ known. ap (λ b. b ++ content told from) is ∙ attached-whole told name from side uid len measured known) part
+
+-- it stopped inside the content
+pub stopped_in_content : (told between after : Told) (to name from head : List ℕ) (side : Bool) (uid len : ℕ) → (IsTold told → len ≡ length (content told from)) → IsApart told from to
+    → head ≡ attached_head name side uid len → between ≡ grown told to head → GrewPartly between to (content between from) after → GrewPartly told to (attached_file name side uid (content told from)) after
+stopped_in_content told between after to name from head side uid len measured apart is first part =
+    GrewPartly-second told between after to _ head (content between from) first
+    (λ known. ap (λ b. b ++ content between from) is ∙ ap (λ b. attached_head name side uid len ++ b) (content-while_grown told between to from _ first apart) ∙ attached-whole told name from side uid len measured known) part
+
+-- what holds anyway holds at an error
+pub on_err : {T E P : Type 0} (r : Result T E) → P → OnErr r P
+on_err (Ok x) holds = tt
+on_err (Err e) holds = holds
+
+-- what stops a later call stops the whole
+pub StopsFor-later : (told between : Told) (faults faults_then faults_now : ℕ) (error : PackError) → (IsTold told → IsTold between) → faults ≤ faults_then → StopsFor between faults_then faults_now error → StopsFor told faults faults_now error
+StopsFor-later told between faults faults_then faults_now (Changed name was now) known fell why = (λ k. why.0 (known k), why.1)
+StopsFor-later told between faults faults_then faults_now Failed known fell why = omega arith
+StopsFor-later told between faults faults_then faults_now NoMemory known fell why = tt
+StopsFor-later told between faults faults_then faults_now (Refused name reason) known fell why = why
+StopsFor-later told between faults faults_then faults_now (InTheWay name) known fell why = why
+StopsFor-later told between faults faults_then faults_now (Missing name) known fell why = why
+
+pub ruleset attach_laws = (attached_file-is, grown-if_told)

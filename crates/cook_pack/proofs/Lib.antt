@@ -1,0 +1,11 @@
+pub mod PieceLaws
+pub mod AttachLaws
+pub mod OffenceLaws
+pub mod OrderLaws
+pub mod UnderLaws
+pub mod PlanLaws
+pub mod PlannedLaws
+pub mod PackLaws
+pub mod LengthLaws
+pub mod FitLaws
+pub mod LeftLaws

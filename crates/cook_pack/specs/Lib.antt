@@ -1,0 +1,13 @@
+-- What pack refuses, what it plans and what it writes.
+pub mod Entries
+pub mod Film
+pub mod Offence
+pub mod Lengths
+pub mod Package
+pub mod Pieces
+pub mod Stops
+pub mod Sum
+pub mod Planned
+pub mod Untold
+pub use Rattle.cook_bits.specs.Names
+pub use Rattle.shelf_core.specs.Told

@@ -1,0 +1,18 @@
+//! Packing: the plan of a directory, or its first offence, and the package that is written for it.
+#![tactic(auto)]
+
+mod attach;
+mod copy;
+mod error;
+mod lengths;
+mod names;
+mod offence;
+mod packing;
+mod pieces;
+mod planned;
+mod planning;
+
+pub use error::{PackError, RefuseWhy};
+pub use packing::{Options, PackSum, pack};
+pub use planned::Plan;
+pub use planning::plan;
