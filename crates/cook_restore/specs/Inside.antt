@@ -1,0 +1,29 @@
+-- Places that keep inside a parent and inside the file, whatever a shelf tells.
+use Rattle.std.specs.Prelude.{◌≡◌, ℕ, ◌+◌, ◌<◌, ◌≤◌, List, All, IfSome}
+use Rattle.cook_restore.specs.declared.matroska_read.parts.Element.{Element}
+use Rattle.cook_restore.specs.declared.matroska_read.parts.Span.{Span}
+use Rattle.cook_restore.specs.declared.matroska_read.parts.Fields.{Fields}
+use Rattle.cook_restore.specs.declared.matroska_read.files.FileAt.{FileAt}
+
+-- an element has a head, and ends where its parent does or before
+pub record IsInside (place end : ℕ) (element : Element) : Type 0 where
+  pub at : element.place ≡ place
+  pub head : place < element.start
+  pub content : element.start ≤ element.end
+  pub within : element.end ≤ end
+
+abbrev pub IsSpan : ℕ → Span → Type 0
+IsSpan end span = (span.start ≤ span.end) × (span.end ≤ end)
+
+pub record AreSpans (end : ℕ) (fields : Fields) : Type 0 where
+  pub name : IfSome fields.name (IsSpan end)
+  pub media_type : IfSome fields.media_type (IsSpan end)
+  pub content : IfSome fields.content (IsSpan end)
+
+-- the content of a file ends at a place or before
+abbrev pub EndsBy : ℕ → FileAt → Type 0
+EndsBy end file = file.at + file.len ≤ end
+
+-- each of the files does
+unfoldable pub AllEndBy : ℕ → List FileAt → Type 0
+AllEndBy end files = All (EndsBy end) files

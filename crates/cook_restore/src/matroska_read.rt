@@ -1,0 +1,18 @@
+// A Matroska file as a reader of plain packages sees it: its outline.
+
+mod attached;
+mod attachments;
+mod element;
+mod error;
+mod files;
+mod header;
+mod parts;
+mod segment;
+#[cfg(test)]
+mod tests;
+mod top;
+mod window;
+
+pub use error::OutlineError;
+pub use files::{FileAt, Outline};
+pub use top::outline;
