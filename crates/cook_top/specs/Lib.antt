@@ -1,0 +1,6 @@
+-- What the words of a command line order, how a command ends, and what is written of it.
+pub mod Laws
+pub mod Orders
+pub mod Shown
+pub mod Statuses
+pub mod Texts

@@ -1,0 +1,39 @@
+-- What the words of a command line order. Words and names are lists of the bytes of their UTF-8.
+use Rattle.std.specs.Prelude.{ℕ, ◌-◌, Bool, ◌&&◌, not, List, [], ◌∷◌, length, Option, Some, None, slice_index, nat_eq, nat_le, ◌==◌, codes, if◌then◌else◌}
+use Rattle.std.specs.List.{list_any}
+use Rattle.cook_bits.specs.Names.{is_same_name}
+
+-- to put the files under the root `dir` into the package `pkg`
+pub data Order : Type 0 where
+  Pack : (dir pkg : List ℕ) → Order
+
+-- the first byte is a dash (byte 45)
+abbrev pub begins_with_dash : List ℕ → Bool
+begins_with_dash text = slice_index text 0 == 45
+
+-- the last byte is a slash (byte 47)
+abbrev pub ends_with_slash : List ℕ → Bool
+ends_with_slash text = slice_index text (length text - 1) == 47
+
+-- a name on the command line: 1 to 4,096 bytes, none of them zero, with no dash at the start
+abbrev pub is_name : List ℕ → Bool
+is_name word = nat_le 1 (length word) && (nat_le (length word) 4096 && (not (list_any (nat_eq 0) word) && not (begins_with_dash word)))
+
+-- a byte more at the front, but a slash only where something stands behind it
+abbrev pub with_front : ℕ → List ℕ → List ℕ
+with_front byte [] = if byte == 47 then [] else byte ∷ []
+with_front byte (next ∷ rest) = byte ∷ next ∷ rest
+
+-- a text without the slashes at its end
+unfoldable pub without_end_slashes : List ℕ → List ℕ
+without_end_slashes [] = []
+without_end_slashes (byte ∷ rest) = with_front byte (without_end_slashes rest)
+
+-- two names, of which the second is no folder's
+unfoldable pub pack_order_of : List ℕ → List ℕ → Option Order
+pack_order_of dir pkg = if is_name dir && (is_name pkg && not (ends_with_slash pkg)) then Some (Pack (without_end_slashes dir) pkg) else None
+
+-- the order that the words are, if they are one
+unfoldable pub order_of : List (List ℕ) → Option Order
+order_of (command ∷ dir ∷ pkg ∷ []) = if is_same_name command (codes "pack") then pack_order_of dir pkg else None
+order_of words = None
