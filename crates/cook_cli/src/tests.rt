@@ -1,0 +1,187 @@
+use crate::real_shelf::RealShelf;
+use cook_top::{Status, cook};
+use shelf_core::{CreateError, Entry, MemShelf, MemSink, Shelf, ShelfError};
+use std::alloc::{AllocError, Global};
+use std::fs;
+use std::os::unix::fs::symlink;
+use std::process::Abort;
+use std::test::Fail;
+
+fn is_listed(entries: &[Entry], name: &str, plain: bool) -> bool {
+    entries.iter().any(|entry| entry.name.as_str() == name && entry.plain == plain)
+}
+
+#[tactic(auto, unfolding(shelf_core::specs::Told::IsPending, shelf_core::specs::Told::HasFile))]
+#[test]
+fn a_file_is_created_once_grows_and_is_read_in_pieces(rt: HostRuntime) -> Result<(), Fail> {
+    let _ = fs::remove_dir_all(&rt, "written");
+    let mut shelf = RealShelf::new(rt);
+    assert_eq!(rt; shelf.make_folder("written/reel/ä"), Ok(()));
+    assert_eq!(rt; shelf.make_folder("written/reel/ä"), Ok(()));
+    let song = "written/reel/ä/ö.txt";
+    assert_eq!(rt; shelf.create(song), Ok(()));
+    assert_eq!(rt; shelf.append(song, b"hello "), Ok(()));
+    assert_eq!(rt; shelf.append(song, b"world"), Ok(()));
+    assert_eq!(rt; shelf.seal(song), Ok(()));
+    assert_eq!(rt; shelf.create(song), Err(CreateError::Exists));
+    let mut buf = [0; 4];
+    assert_eq!(rt; shelf.read_at(song, 0, &mut buf), Ok(4));
+    assert_eq!(rt; buf, *b"hell");
+    assert_eq!(rt; shelf.read_at(song, 8, &mut buf), Ok(3));
+    assert_eq!(rt; buf, *b"rldl");
+    assert_eq!(rt; shelf.read_at(song, 11, &mut buf), Ok(0));
+    assert_eq!(rt;
+        shelf.read_at("written/none", 0, &mut buf),
+        Err(ShelfError::Failed)
+    );
+    assert_eq!(rt; shelf.append("written/none", b"a"), Err(ShelfError::Failed));
+    assert_eq!(rt; shelf.create("written/none/a"), Err(CreateError::Failed));
+    assert_eq!(rt; shelf.make_folder(song), Err(ShelfError::Failed));
+    fs::remove_dir_all(&rt, "written")?;
+    Ok(())
+}
+
+#[test]
+fn a_listing_shows_each_thing_once_and_follows_no_link(rt: HostRuntime) -> Result<(), Fail> {
+    let _ = fs::remove_dir_all(&rt, "listed");
+    fs::create_dir_all(&rt, "listed/reel/ä")?;
+    fs::create_dir_all(&rt, "listed/hollow")?;
+    fs::write(&rt, "listed/reel/ä/ö.txt", b"hello world".as_slice())?;
+    fs::write(&rt, "listed/empty", b"".as_slice())?;
+    symlink(&rt, "empty", "listed/link")?;
+    symlink(&rt, "reel", "listed/ring")?;
+    symlink(&rt, "nowhere", "listed/astray")?;
+    let mut shelf = RealShelf::new(rt);
+    let entries = shelf.list("listed")?;
+    assert_eq!(rt; entries.len(), 5);
+    assert!(rt; is_listed(entries.as_slice(), "reel/ä/ö.txt", true));
+    assert!(rt; is_listed(entries.as_slice(), "empty", true));
+    for link in ["link", "ring", "astray"] {
+        assert!(rt; is_listed(entries.as_slice(), link, false), "{link}");
+    }
+    assert!(rt; matches!(shelf.list("listed/none"), Err(ShelfError::Failed)));
+    assert_eq!(rt; shelf.create("listed/astray"), Err(CreateError::Exists));
+    assert_eq!(rt; shelf.len("listed/reel/ä/ö.txt"), Ok(Some(11)));
+    assert_eq!(rt; shelf.len("listed/empty"), Ok(Some(0)));
+    assert_eq!(rt; shelf.len("listed/none"), Ok(None));
+    assert_eq!(rt; shelf.len("listed/empty/none"), Ok(None));
+    assert_eq!(rt; shelf.len("listed/reel"), Err(ShelfError::Failed));
+    fs::remove_dir_all(&rt, "listed")?;
+    Ok(())
+}
+
+// Bytes of a file that takes more than one piece of 1 MiB. No two pieces are alike.
+fn long_bytes(alloc: Global) -> Result<Vec<u8>, AllocError> {
+    let mut bytes = Vec::new(alloc);
+    for place in 0..1_572_865_u32 {
+        bytes.push((place % 251) as u8)?;
+    }
+    Ok(bytes)
+}
+
+// Makes a whole file.
+#[tactic(auto, using(shelf_core::proofs::FileLaws::file_laws))]
+fn put<S: Shelf>(shelf: &mut S, name: &str, bytes: &[u8]) -> Result<(), Fail> {
+    shelf.create(name)?;
+    shelf.append(name, bytes)?;
+    shelf.seal(name)?;
+    Ok(())
+}
+
+// Does what a line says, whose words are parted by one space each: how it ended, and what was reported.
+fn run<S: Shelf>(alloc: Global, shelf: &mut S, line: &str) -> Result<(Status, MemSink), Fail> {
+    let mut words = Vec::new(alloc);
+    for word in line.split(' ') {
+        words.push(String::from_str(alloc, word)?)?;
+    }
+    let mut out = MemSink::new(alloc, 200, Vec::new(alloc))?;
+    let status = cook(alloc, words.as_slice(), shelf, &mut out);
+    Ok((status, out))
+}
+
+// Makes the folder `packed` anew, and the same files in memory.
+fn lay(rt: &HostRuntime, memory: &mut MemShelf) -> Result<(), Fail> {
+    let long = long_bytes(rt.alloc())?;
+    let files: [(&str, &[u8]); 4] = [
+        ("packed/empty", b""),
+        ("packed/reel.txt", b"hello world"),
+        ("packed/reel/long", long.as_slice()),
+        ("packed/reel/ä/ö.txt", b"hello"),
+    ];
+    let _ = fs::remove_dir_all(rt, "packed");
+    let _ = fs::remove_file(rt, "p.mkv");
+    fs::create_dir_all(rt, "packed/reel/ä")?;
+    fs::create_dir_all(rt, "packed/hollow")?;
+    for (name, bytes) in files {
+        fs::write(rt, name, bytes)?;
+        put(memory, name, bytes)?;
+    }
+    Ok(())
+}
+
+// Packs the folder, and answers the report.
+fn pack_folder<S: Shelf>(rt: &impl Abort, alloc: Global, shelf: &mut S) -> Result<MemSink, Fail> {
+    let (status, out) = run(alloc, shelf, "pack packed p.mkv")?;
+    assert_eq!(rt; status.number(), 0);
+    Ok(out)
+}
+
+// The report of a package of four files and so many bytes.
+fn report_of(alloc: Global, count: usize) -> Result<String, AllocError> {
+    format!(in alloc; "packed 4 files, 0 tracks, 0 blocks, {count} bytes\n")
+}
+
+#[test]
+fn a_real_folder_is_packed_as_the_same_files_in_memory_are(rt: HostRuntime) -> Result<(), Fail> {
+    let mut memory = MemShelf::new(rt.alloc(), Vec::new(rt.alloc()), Vec::new(rt.alloc()));
+    lay(&rt, &mut memory)?;
+    let in_memory = pack_folder(&rt, rt.alloc(), &mut memory)?;
+    let on_disk = pack_folder(&rt, rt.alloc(), &mut RealShelf::new(rt))?;
+    let package = fs::read(&rt, "p.mkv")?;
+    let report = report_of(rt.alloc(), package.len())?;
+    assert_eq!(rt; on_disk.bytes(), report.as_bytes());
+    assert_eq!(rt; in_memory.bytes(), report.as_bytes());
+    let stored = memory.files();
+    assert_eq!(rt; stored.len(), 5);
+    assert_eq!(rt; stored[0].0.as_str(), "p.mkv");
+    assert!(rt; stored[0].1.as_slice() == package.as_slice());
+    fs::remove_dir_all(&rt, "packed")?;
+    fs::remove_file(&rt, "p.mkv")?;
+    Ok(())
+}
+
+#[test]
+fn a_package_in_the_way_is_left_as_it_is(rt: HostRuntime) -> Result<(), Fail> {
+    let _ = fs::remove_dir_all(&rt, "taken");
+    fs::create_dir_all(&rt, "taken/reel")?;
+    fs::write(&rt, "taken/p.mkv", b"hello".as_slice())?;
+    let (status, out) = run(
+        rt.alloc(),
+        &mut RealShelf::new(rt),
+        "pack taken/reel taken/p.mkv",
+    )?;
+    assert_eq!(rt; status.number(), 4);
+    assert_eq!(rt; out.bytes(), b"cook: taken/p.mkv: in the way\n".as_slice());
+    let kept = fs::read(&rt, "taken/p.mkv")?;
+    assert_eq!(rt; kept.as_slice(), b"hello".as_slice());
+    fs::remove_dir_all(&rt, "taken")?;
+    Ok(())
+}
+
+#[test]
+fn a_folder_with_a_link_is_refused(rt: HostRuntime) -> Result<(), Fail> {
+    let _ = fs::remove_dir_all(&rt, "linked");
+    fs::create_dir_all(&rt, "linked/reel")?;
+    fs::write(&rt, "linked/note", b"hello".as_slice())?;
+    symlink(&rt, "../note", "linked/reel/link")?;
+    let mut shelf = RealShelf::new(rt);
+    let (status, out) = run(rt.alloc(), &mut shelf, "pack linked linked.mkv")?;
+    assert_eq!(rt; status.number(), 2);
+    assert_eq!(rt;
+        out.bytes(),
+        b"cook: reel/link: not a plain file\n".as_slice()
+    );
+    assert_eq!(rt; shelf.len("linked.mkv"), Ok(None));
+    fs::remove_dir_all(&rt, "linked")?;
+    Ok(())
+}
