@@ -1,4 +1,4 @@
-//! Restoring: what a package holds, and the directory that it gives back.
+//! Restoring: so far the outline of a package, which says what it holds and where.
 #![tactic(auto)]
 
 mod matroska_read;
