@@ -10,4 +10,4 @@ mod sharing;
 pub use bytes::Bytes;
 pub use memory::NoMemory;
 pub use name::Name;
-pub use names::{MOST_NAME_BYTES, Named, holds_folder_of, is_relative_name};
+pub use names::{MOST_NAME_BYTES, Named, full_name, holds_folder_of, is_relative_name};

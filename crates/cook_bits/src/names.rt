@@ -1,13 +1,14 @@
 // The rules of names: which are relative names, and which stand under a name that is held.
-ghost use Rattle.std.specs.Prelude.{◌≡◌, map, length};
+ghost use Rattle.std.specs.Prelude.{◌≡◌, map, length, IfOk};
 ghost use Rattle.std.specs.List.{list_any};
 ghost use Rattle.std.specs.List.Sorted.{IsSortedByKey};
 ghost use Rattle.std.specs.Ordering.{nat_cmp};
 ghost use Rattle.std.specs.Cmp.Lexicographic.{slice_cmp};
-ghost use Rattle.cook_bits.specs.Names.{is_same_name, is_relative_name, holds_folder_of};
+ghost use Rattle.cook_bits.specs.Names.{full_name, is_same_name, is_relative_name, holds_folder_of};
 ghost use Rattle.cook_bits.specs.Segments.{is_named, seen_more, are_plain};
 
-use crate::Name;
+use crate::{Name, NoMemory};
+use std::alloc::Global;
 use std::cmp::Ordering;
 
 /// The most bytes of a relative name.
@@ -92,6 +93,20 @@ pub fn is_relative_name(name: &str) -> bool
     bytes.len() <= MOST_NAME_BYTES && are_plain_segments(bytes)
 }
 
+/// The full name of a file under a root: the root, a slash and its relative name.
+pub fn full_name(alloc: Global, root: &str, name: &str) -> Result<Name, NoMemory>
+    ensures { IfOk result (λ full. full ≡ full_name root.now name.now) }
+{
+    let mut text = String::with_capacity(
+        alloc,
+        root.len().saturating_add(name.len()).saturating_add(1),
+    )?;
+    text.push_str(root)?;
+    text.push('/')?;
+    text.push_str(name)?;
+    Ok(Name::from_string(text))
+}
+
 // Compares the name of what is held with the folder, byte by byte.
 fn compared<N: Named>(held: &N, folder: &[u8]) -> Ordering
     ensures { result ≡ slice_cmp nat_cmp (N.name_of held.now) folder.now }
@@ -162,6 +177,21 @@ mod tests {
         assert!(rt; is_relative_name(longest.as_str()));
         let longer = letters(rt.alloc(), 1025)?;
         assert!(rt; !is_relative_name(longer.as_str()));
+        Ok(())
+    }
+
+    #[test]
+    fn a_full_name_is_the_root_a_slash_and_the_name(rt: HostRuntime) -> Result<(), Fail> {
+        for (root, name, full) in [
+            ("d", "a/b", "d/a/b"),
+            ("", "a", "/a"),
+            ("/d/e", "ä", "/d/e/ä"),
+        ] {
+            let named = full_name(rt.alloc(), root, name)
+                .ok()
+                .ok_or("ample memory")?;
+            assert_eq!(rt; named.as_str(), full);
+        }
         Ok(())
     }
 
