@@ -116,6 +116,26 @@ IsApart-there (Some files) name other there free = λ same. not_both (get files 
     not_both : (o : Option (List ℕ)) → IsSome o → o ≡ None → ⊥
     not_both o some none = cc
 
+-- two names that differ
+pub IsApart-different : (told : Told) (name other : List ℕ) → (name ≡ other → ⊥) → IsApart told name other
+unfolding IsApart
+IsApart-different None name other different = tt
+IsApart-different (Some files) name other different = different
+
+-- a name that another file leaves free
+pub IsFree-with_file : (told : Told) (name bytes other : List ℕ) → IsFree told other → IsApart told other name → IsFree (with_file told name bytes) other
+unfolding with_file IsFree IsApart
+IsFree-with_file None name bytes other free apart = tt
+IsFree-with_file (Some files) name bytes other free apart = get-insert_apart files name bytes other apart ∙ free
+
+pub IsFree-not_there : (told : Told) (name : List ℕ) → IsTold told → IsFree told name → HasFile told name → ⊥
+unfolding HasFile IsFree IsTold
+IsFree-not_there None name known free there = known
+IsFree-not_there (Some files) name known free there = not_both (get files name) there free
+  where
+    not_both : (o : Option (List ℕ)) → IsSome o → o ≡ None → ⊥
+    not_both o some none = cc
+
 pub IsTold-with_file : (told : Told) (name bytes : List ℕ) → IsTold (with_file told name bytes) → IsTold told
 unfolding with_file IsTold
 IsTold-with_file None name bytes known = known
@@ -182,11 +202,11 @@ unfolding with_pending IsPending
 IsPending-with_pending None name = tt
 IsPending-with_pending (Some names) name = Contains-push names name
 
-is_same_name-itself : (name : List ℕ) → is_same_name name name ≡ true
+pub is_same_name-itself : (name : List ℕ) → is_same_name name name ≡ true
 unfolding same_key
 is_same_name-itself name = texts_ties name name ∙ same_key-itself name
 
-is_same_name-means : (x y : List ℕ) → is_same_name x y ≡ true → x ≡ y
+pub is_same_name-means : (x y : List ℕ) → is_same_name x y ≡ true → x ≡ y
 unfolding same_key
 is_same_name-means x y e = same_key-means x y (sym (texts_ties x y) ∙ e)
 

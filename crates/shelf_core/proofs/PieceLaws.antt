@@ -29,12 +29,10 @@ IsTold-while_grown told between to added is known = subst IsTold (sym is) (IsTol
 
 -- a piece that was read while the other file was grown is that of the file as it was
 pub piece-while_grown : (told between : Told) (to from added piece : List ℕ) (at n : ℕ) → between ≡ grown told to added → IsApart told from to
-    → (IsTold told → at + n ≤ length (content told from))
-    → (IsTold between → at + n ≤ length (content between from) → piece ≡ take n (drop at (content between from)))
+    → (IsTold between → piece ≡ take n (drop at (content between from)))
     → IsTold told → piece ≡ take n (drop at (content told from))
-piece-while_grown told between to from added piece at n is apart within read known =
-    let same = content-while_grown told between to from added is apart in
-    read (IsTold-while_grown told between to added is known) (omega (arith, within known, ap length same)) ∙ ap (λ b. take n (drop at b)) same
+piece-while_grown told between to from added piece at n is apart read known =
+    read (IsTold-while_grown told between to added is known) ∙ ap (λ b. take n (drop at b)) (content-while_grown told between to from added is apart)
 
 -- nothing was copied
 pub grown-start : (told : Told) (name bytes : List ℕ) → HasFile told name → told ≡ grown told name (take 0 bytes)

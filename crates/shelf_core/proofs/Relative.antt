@@ -12,7 +12,7 @@ use Rattle.cook_bits.specs.Names.{File, rest_behind, files_under, relative_to, r
 use Rattle.shelf_core.specs.Listing.{plain_entry, plain_entries}
 
 -- what stands behind a front that is there
-rest_behind-there : (front rest : List ℕ) → rest_behind front (front ++ rest) ≡ Some rest
+pub rest_behind-there : (front rest : List ℕ) → rest_behind front (front ++ rest) ≡ Some rest
 unfolding rest_behind
 rest_behind-there [] rest = refl
 rest_behind-there (a ∷ front) rest = grind (arith, nat_tests, rest_behind-there front rest)

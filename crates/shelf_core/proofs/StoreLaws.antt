@@ -1,10 +1,8 @@
 -- Laws of files in memory, in the words that a shelf tells.
-use Rattle.std.proofs.Common.{◌≡◌, ℕ, Bool, true, false, cond, List, [], ◌∷◌, ◌++◌, length, take, drop, get_or, set, Option, Some, None, IsSome, is_some, not, refl, sym, ap, subst, ◌∙◌, arith, append-nil}
-use Rattle.std.specs.declared.cmp.Ordering.{Ordering}
-use Rattle.std.specs.declared.cmp.Ordering.TheVariants.{Less, Equal, Greater}
+use Rattle.std.proofs.Common.{◌≡◌, ℕ, Bool, true, false, cond, List, [], ◌∷◌, ◌++◌, length, take, drop, get_or, set, Option, Some, None, IsSome, is_some, not, refl, sym, ap, subst, ◌∙◌}
 use Rattle.std.specs.Cmp.{IsTotalOrder, tied_itself}
 use Rattle.std.specs.Cmp.Lexicographic.{nat_list_cmp_total}
-use Rattle.std.specs.FinMap.{FinMap, from_sorted, get, insert, find, put, entries-from_sorted, entries-insert, get-insert, same_entries_map, same_map, slice_cmp-IsAntisymmetric, nat_cmp-IsAntisymmetric}
+use Rattle.std.specs.FinMap.{from_sorted, find, put, entries-from_sorted, entries-insert, same_entries_map}
 use Rattle.std.specs.FinMap.Entries.{is_sorted-put, find-put}
 use Rattle.std.specs.List.{filter}
 use Rattle.std.specs.Option.{option_map, unwrap_or}
@@ -12,6 +10,7 @@ use Rattle.std.specs.Ordering.{is_eq, eq_by_cmp}
 use Rattle.cook_bits.specs.Names.{File, files_under, is_same_name}
 use Rattle.shelf_core.specs.Told.{HasFile, IsFree, content, length_of, with_file, grown, under, IsPending, IsAtRest, IsRead, with_pending, without_pending, GrewPartly}
 use Rattle.shelf_core.specs.StoreTold.{made, shown, both, left_of, right_of, found, has-told, told-has, pending-found, pending-has}
+use Rattle.shelf_core.proofs.PieceLaws.{GrewPartly-nothing}
 use Rattle.shelf_core.specs.Store.{byte_order, IsAscending, AreThere, are_there, told_of, bytes_in, put_in, StandsAt, BelongsAt}
 
 total : IsTotalOrder byte_order
@@ -144,30 +143,9 @@ pub unpended : (names after : List (List ℕ)) (name : List ℕ) → after ≡ f
 unfolding without_pending
 unpended names after name is = ap Some is
 
--- to put a file that is there in its own place changes nothing
-held : (o : Option (List ℕ)) → IsSome o → Some (unwrap_or o []) ≡ o
-held None some = cc
-held (Some bytes) some = refl
-
-equal : (r : Ordering) → is_eq r ≡ true → r ≡ Equal
-equal Less is = cc
-equal Equal is = refl
-equal Greater is = cc
-
-kept-insert : (files : FinMap byte_order (List ℕ)) (name : List ℕ) → IsSome (get files name) → files ≡ insert files name (unwrap_or (get files name) [])
-kept-insert files name has = same_map total (λ x y. slice_cmp-IsAntisymmetric nat_cmp-IsAntisymmetric x y) files _ (λ q. sym (get-insert total files name _ q ∙ here q (eq_by_cmp byte_order q name) refl))
-  where
-    here : (q : List ℕ) (b : Bool) → eq_by_cmp byte_order q name ≡ b → cond b (Some (unwrap_or (get files name) [])) (get files q) ≡ get files q
-    here q true is = held (get files name) has ∙ ap (get files) (sym (slice_cmp-IsAntisymmetric nat_cmp-IsAntisymmetric q name (equal _ is)))
-    here q false is = refl
-
-grown-none : (files : List File) (name : List ℕ) → HasFile (told_of files) name → told_of files ≡ grown (told_of files) name []
-unfolding told_of HasFile content with_file
-grown-none files name has = ap Some (kept-insert (from_sorted files) name has ∙ ap (insert (from_sorted files) name) (sym (append-nil _)))
-
 -- where nothing was added, none of the bytes were
 pub grew_none : (files : List File) (name bytes : List ℕ) → HasFile (told_of files) name → GrewPartly (told_of files) name bytes (told_of files)
-grew_none files name bytes has = record { count = 0; within = omega arith; is = grown-none files name has }
+grew_none files name bytes has = GrewPartly-nothing (told_of files) (told_of files) name bytes has refl
 
 -- what the methods of a store need
 pub ruleset store_facts = (pending-has, at_rest, there-none, there-filter, under-told, length-told, free-told, pended, unpended, grew_none)

@@ -1,6 +1,7 @@
 -- What a shelf and a sink tell, and what their calls promise.
 pub mod Calls
 pub mod Causes
+pub mod Leaves
 pub mod Listing
 pub mod Pieces
 pub mod Report

@@ -1,5 +1,5 @@
 -- Pieces of a file, read one after another.
-use Rattle.std.specs.Prelude.{ℕ, ◌+◌, ◌<◌, ◌≤◌}
+use Rattle.std.specs.Prelude.{◌≡◌, ℕ, ◌+◌, ◌-◌, ◌<◌, ◌≤◌}
 use Rattle.shelf_core.specs.declared.shelf.ShelfError.{ShelfError}
 use Rattle.shelf_core.specs.declared.shelf.ShelfError.TheVariants as shelf
 use Rattle.shelf_core.specs.declared.pieces.PieceError.{PieceError}
@@ -15,6 +15,12 @@ abbrev pub EndsWithin : ℕ → ℕ → PieceError → Type 0
 EndsWithin at len (Short now) = (at ≤ now) × (now < at + len)
 EndsWithin at len Failed = Unit {0}
 EndsWithin at len NoMemory = Unit {0}
+
+-- a file of so many bytes that was read from a place on ended early at its end, or at that place where it ends before it
+abbrev pub EndsAt : ℕ → ℕ → PieceError → Type 0
+EndsAt at len (Short now) = now ≡ at + (len - at)
+EndsAt at len Failed = Unit {0}
+EndsAt at len NoMemory = Unit {0}
 
 -- the file didn't end early
 abbrev pub IsNotShort : PieceError → Type 0

@@ -6,7 +6,11 @@ use Rattle.std.specs.Option.{option_map}
 use Rattle.std.specs.Ordering.{nat_cmp}
 use Rattle.std.specs.Cmp.Lexicographic.{slice_cmp}
 use Rattle.std.specs.FinMap.{FinMap, entries, get, insert}
-use Rattle.cook_bits.specs.Names.{File, files_under, is_same_name}
+use Rattle.cook_bits.specs.Names.{File, files_under, full_name, is_same_name}
+
+-- what is read of a list of files past its end
+abbrev pub no_file : File
+no_file = ([], [])
 
 -- files by their full names, in byte order of names
 abbrev pub Files : Type 0
@@ -54,6 +58,11 @@ with_file (Some files) name bytes = Some (insert files name bytes)
 -- the files after bytes were added at the end of one
 abbrev pub grown : Told → List ℕ → List ℕ → Told
 grown told name bytes = with_file told name (content told name ++ bytes)
+
+-- files added under a root, one after another
+unfoldable pub with_files : Told → List ℕ → List File → Told
+with_files told root [] = told
+with_files told root (file ∷ files) = with_files (with_file told (full_name root file.0) file.1) root files
 
 -- the files under a root, by their relative names, in byte order
 unfoldable pub under : Told → List ℕ → List File

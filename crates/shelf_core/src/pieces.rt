@@ -1,6 +1,6 @@
 ghost use Rattle.std.specs.Prelude.{◌≡◌, ◌≢◌, ◌+◌, ◌^◌, ◌<◌, ◌≤◌, length, take, drop, OnOk, IfErr};
 ghost use Rattle.shelf_core.specs.Causes.{HasCause};
-ghost use Rattle.shelf_core.specs.Pieces.{EndsWithin, IsNotShort};
+ghost use Rattle.shelf_core.specs.Pieces.{EndsAt, EndsWithin, IsNotShort};
 ghost use Rattle.shelf_core.specs.Told.{IsTold, HasFile, content};
 
 use crate::{Shelf, ShelfError};
@@ -35,7 +35,8 @@ impl From<ShelfError> for PieceError {
 }
 
 /// Fills the piece with the bytes of a file from place `at` on. Where the file ends before the piece does, it answers
-/// at which place; where the shelf tells its files, a piece that lies in the file is always read whole.
+/// at which place. Where the shelf tells its files, a piece that lies in the file is always read whole, and the place
+/// that is answered for another is the file's end, or `at` where the file ends before it.
 pub fn read_piece<S: Shelf>(
     shelf: &mut S,
     name: &str,
@@ -44,9 +45,9 @@ pub fn read_piece<S: Shelf>(
 ) -> Result<(), PieceError>
     requires there { HasFile (S.files shelf.old) name.now }
     requires fits { at + length piece.old < 2 ^ 64 }
-    ensures read { OnOk result (IsTold (S.files shelf.old) → at + length piece.old ≤ length (content (S.files shelf.old) name.now)
-        → piece.new ≡ take (length piece.old) (drop at (content (S.files shelf.old) name.now))) }
+    ensures read { OnOk result (IsTold (S.files shelf.old) → piece.new ≡ take (length piece.old) (drop at (content (S.files shelf.old) name.now))) }
     ensures short { IfErr result (EndsWithin at (length piece.old)) }
+    ensures ended { IsTold (S.files shelf.old) → IfErr result (EndsAt at (length (content (S.files shelf.old) name.now))) }
     ensures whole { IsTold (S.files shelf.old) → at + length piece.old ≤ length (content (S.files shelf.old) name.now) → IfErr result IsNotShort }
     ensures files { S.files shelf.new ≡ S.files shelf.old }
     ensures unsealed { S.unsealed shelf.new ≡ S.unsealed shelf.old }
