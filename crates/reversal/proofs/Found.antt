@@ -15,7 +15,7 @@ use Rattle.byteorder.specs.Numbers.{big_from-lt}
 use Rattle.reversal.specs.declared.record.Kind.{Kind}
 use Rattle.reversal.specs.declared.record.Kind.TheVariants.{Other}
 use Rattle.reversal.specs.declared.record.FileRecord.{FileRecord}
-use Rattle.reversal.specs.SideData.{mark, record_bytes, side_data_of, HasShape, FitsTypes, IsSideDataOf, names_of}
+use Rattle.reversal.specs.SideData.{mark, record_bytes, side_data_of, HasShape, FitsTypes, IsSideDataOf, AreNames, names_of}
 use Rattle.reversal.specs.SideReading.{◌>>=◌, piece_at, number_at, kind_at, text_at, name_at, other_record, record_at, records_at, mark_at, side_at, with_names, placed, first_bad_name, side_read, GivesSide}
 use Rattle.reversal.specs.declared.error.SideError.{SideError}
 use Rattle.std.specs.Global.{Vec}
@@ -217,3 +217,7 @@ is_found bytes (Ok v) fits given =
     let s = side_takes bytes v.items fits u.0 in
     record { are = record { few = s.few; shaped = s.shaped; named = are_named v.items u.1 }; typed = s.typed; is = s.is }
 is_found bytes (Err e) fits given = tt
+
+pub names_in_order : (bytes : List ℕ) (records : List FileRecord) → side_read bytes ≡ Ok records → AreNames (names_of records)
+unfolding side_read
+names_in_order bytes records e = are_named records (unplaced (length bytes) (side_at bytes) records e).1
