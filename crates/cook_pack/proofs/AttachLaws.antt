@@ -1,7 +1,10 @@
 -- Laws of an attachment that is appended in two pieces.
 use Rattle.std.proofs.Common.{◌≡◌, ℕ, Bool, List, ◌++◌, ◌≤◌, length, arith, Result, Ok, Err, OnErr, sym, ap, ◌∙◌}
 use Rattle.shelf_core.specs.Told.{Told, IsTold, content, grown, GrewPartly, IsApart}
-use Rattle.shelf_core.proofs.PieceLaws.{grown-if_told, GrewPartly-first, GrewPartly-second, content-while_grown}
+use Rattle.shelf_core.proofs.PieceLaws.{grown-if_told, grown-both, GrewPartly-first, GrewPartly-second, content-while_grown, IsTold-while_grown}
+use Rattle.shelf_parts.specs.Parts.{part_of}
+use Rattle.shelf_parts.proofs.PartLaws.{part-whole}
+use Rattle.md5.specs.Md5.{md5}
 use Rattle.cook_pack.specs.Stops.{StopsFor}
 use Rattle.cook_pack.specs.declared.error.PackError.{PackError}
 use Rattle.cook_pack.specs.declared.error.PackError.TheVariants.{Refused, InTheWay, Changed, Missing, Failed, NoMemory}
@@ -19,12 +22,32 @@ pub stopped_in_head : (told after : Told) (to name from head : List ℕ) (side :
 stopped_in_head told after to name from head side uid len measured is part =
     GrewPartly-first told after to _ head (content told from) (λ known. ap (λ b. b ++ content told from) is ∙ attached-whole told name from side uid len measured known) part
 
+-- the file as a part, after the head was appended
+part_after_head : (told between : Told) (to from head : List ℕ) (len : ℕ) → between ≡ grown told to head → IsApart told from to → (IsTold told → len ≡ length (content told from)) → part_of 0 len (content between from) ≡ content told from
+part_after_head told between to from head len first apart measured = ap (part_of 0 len) (content-while_grown told between to from head first apart) ∙ part-whole told from len measured
+
+head_and_part : (told between : Told) (to name from head : List ℕ) (side : Bool) (uid len : ℕ) → (IsTold told → len ≡ length (content told from)) → IsApart told from to
+    → head ≡ attached_head name side uid len → between ≡ grown told to head → IsTold told → head ++ part_of 0 len (content between from) ≡ attached_file name side uid (content told from)
+head_and_part told between to name from head side uid len measured apart is first known =
+    ap (λ b. b ++ part_of 0 len (content between from)) is ∙ ap (λ b. attached_head name side uid len ++ b) (part_after_head told between to from head len first apart measured) ∙ attached-whole told name from side uid len measured known
+
+-- both were appended
+pub attached_both : (told between after : Told) (to name from head : List ℕ) (side : Bool) (uid len : ℕ) → (IsTold told → len ≡ length (content told from)) → IsApart told from to
+    → head ≡ attached_head name side uid len → between ≡ grown told to head → after ≡ grown between to (part_of 0 len (content between from)) → after ≡ grown told to (attached_file name side uid (content told from))
+attached_both told between after to name from head side uid len measured apart is first second =
+    grown-both told between after to (attached_file name side uid (content told from)) head (part_of 0 len (content between from)) first second (head_and_part told between to name from head side uid len measured apart is first)
+
+-- and the sum is the file's
+pub sum_of_attached : (told between : Told) (to from head sum : List ℕ) (len : ℕ) → (IsTold told → len ≡ length (content told from)) → IsApart told from to → between ≡ grown told to head
+    → (IsTold between → sum ≡ md5 (part_of 0 len (content between from))) → IsTold told → sum ≡ md5 (content told from)
+sum_of_attached told between to from head sum len measured apart first is known =
+    is (IsTold-while_grown told between to head first known) ∙ ap md5 (part_after_head told between to from head len first apart measured)
+
 -- it stopped inside the content
 pub stopped_in_content : (told between after : Told) (to name from head : List ℕ) (side : Bool) (uid len : ℕ) → (IsTold told → len ≡ length (content told from)) → IsApart told from to
-    → head ≡ attached_head name side uid len → between ≡ grown told to head → GrewPartly between to (content between from) after → GrewPartly told to (attached_file name side uid (content told from)) after
+    → head ≡ attached_head name side uid len → between ≡ grown told to head → GrewPartly between to (part_of 0 len (content between from)) after → GrewPartly told to (attached_file name side uid (content told from)) after
 stopped_in_content told between after to name from head side uid len measured apart is first part =
-    GrewPartly-second told between after to _ head (content between from) first
-    (λ known. ap (λ b. b ++ content between from) is ∙ ap (λ b. attached_head name side uid len ++ b) (content-while_grown told between to from _ first apart) ∙ attached-whole told name from side uid len measured known) part
+    GrewPartly-second told between after to _ head (part_of 0 len (content between from)) first (head_and_part told between to name from head side uid len measured apart is first) part
 
 -- what holds anyway holds at an error
 pub on_err : {T E P : Type 0} (r : Result T E) → P → OnErr r P

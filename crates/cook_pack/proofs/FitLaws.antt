@@ -4,7 +4,7 @@ use Rattle.std.proofs.lemmas.List.{ext_get_or, get_or-map, length-map}
 use Rattle.std.proofs.lemmas.List.Elements.{All-map}
 use Rattle.md5.proofs.StandardFacts.{length-md5}
 use Rattle.cook_bits.specs.Names.{File, full_name}
-use Rattle.shelf_core.specs.Told.{Told, IsTold, HasFile, IsFree, IsApart, GrewPartly, content, grown, length_of, under, with_file}
+use Rattle.shelf_core.specs.Told.{Told, IsTold, HasFile, IsFree, IsApart, GrewPartly, content, grown, length_of, no_file, under, with_file}
 use Rattle.shelf_core.proofs.FileLaws.{HasFile-with_file, HasFile-length_of, IsApart-with_file, IsApart-there, IsTold-with_file, IsTold-stays, content-apart, grown-with_file}
 use Rattle.shelf_core.proofs.PieceLaws.{grown-if_told, GrewPartly-if_told}
 use Rattle.reversal.specs.declared.record.FileRecord.{FileRecord}
@@ -15,12 +15,12 @@ use Rattle.cook_pack.specs.declared.packing.PackSum.{PackSum}
 use Rattle.cook_pack.specs.Lengths.{planned_len}
 use Rattle.cook_pack.specs.Pieces.{attached_head}
 use Rattle.cook_pack.specs.Planned.{Planned, IsSound, Fits}
-use Rattle.cook_pack.specs.Package.{CanAttach, attached_from, attachments_of, package_bytes, no_file, planned_files, record_of, side_attached}
+use Rattle.cook_pack.specs.Package.{CanAttach, attached_from, attachments_of, package_bytes, planned_files, record_of, side_attached}
 use Rattle.cook_pack.proofs.PieceLaws.{length-attached_file}
 use Rattle.cook_pack.proofs.LengthLaws.{planned_len-is}
 use Rattle.cook_pack.proofs.PlannedLaws.{planned_at, length-planned_files}
 use Rattle.cook_pack.proofs.PackLaws.{names-planned}
-use Rattle.cook_pack.proofs.UnderLaws.{content-under, length_of-under}
+use Rattle.shelf_core.proofs.UnderLaws.{content-under, length_of-under}
 
 name_of_file : File → List ℕ
 name_of_file file = file.0

@@ -2,7 +2,6 @@ pub mod PieceLaws
 pub mod AttachLaws
 pub mod OffenceLaws
 pub mod OrderLaws
-pub mod UnderLaws
 pub mod PlanLaws
 pub mod PlannedLaws
 pub mod PackLaws

@@ -1,5 +1,5 @@
 -- Laws of a plan that is made entry by entry, in byte order of names.
-use Rattle.std.proofs.Common.{◌≡◌, ℕ, zero, suc, ◌+◌, ◌^◌, ◌<◌, ◌≤◌, Bool, true, false, cond, nat_le, nat_lt, List, [], ◌∷◌, ◌++◌, length, take, drop, map, get_or, sum, sum_by, Option, Some, None, refl, sym, ap, ◌∙◌, subst, arith, add-one, drop-cons, length-append, zero-add}
+use Rattle.std.proofs.Common.{◌≡◌, ℕ, zero, suc, ◌+◌, ◌^◌, ◌<◌, ◌≤◌, Bool, true, false, cond, nat_le, nat_lt, List, [], ◌∷◌, ◌++◌, length, take, drop, map, get_or, sum, sum_by, IsUtf8, Option, Some, None, refl, sym, ap, ◌∙◌, subst, arith, add-one, drop-cons, length-append, zero-add}
 use Rattle.std.proofs.Math.Seq.{take-suc, take-length}
 use Rattle.std.proofs.Math.ListN.{drop_of_length-le, get_or-map as get_or-mapped}
 use Rattle.std.proofs.lemmas.List.{length-map, get_or-map, take-map, map_more}
@@ -13,7 +13,7 @@ use Rattle.std.specs.Cmp.Lexicographic.{slice_cmp, texts_ties, nat_list_cmp_tota
 use Rattle.cook_bits.specs.Names.{File, is_relative_name, is_same_name, holds_folder_of, full_name}
 use Rattle.shelf_core.specs.Causes.{Rose}
 use Rattle.shelf_core.specs.Listing.{plain_entry, plain_entries}
-use Rattle.shelf_core.specs.Told.{Told, IsTold, under, length_of}
+use Rattle.shelf_core.specs.Told.{Told, IsTold, no_file, under, length_of}
 use Rattle.shelf_core.specs.declared.shelf.Entry.{Entry}
 use Rattle.cook_pack.specs.declared.error.RefuseWhy.{RefuseWhy}
 use Rattle.cook_pack.specs.declared.error.RefuseWhy.TheVariants.{BadName, UnderFile, TooManyFiles, TooLarge, Unbuilt}
@@ -24,8 +24,7 @@ use Rattle.cook_pack.specs.Offence.{Listed, listed, names_of, first_broken, brok
 use Rattle.cook_pack.specs.Planned.{IsBefore, IsSound, Fits, IsNotPlanned}
 use Rattle.cook_pack.specs.Entries.{name_of, entry_names, AreInOrder, entry_at, fault_by_listing, fault_by_file, IsBarred, planned}
 use Rattle.cook_pack.proofs.OffenceLaws.{first_broken-append, by_listing, by_file, by_file-none, IsAdmitted, admitted, ends_with_name-some}
-use Rattle.cook_pack.specs.Package.{no_file}
-use Rattle.cook_pack.proofs.UnderLaws.{under-ascending, length_of-under}
+use Rattle.shelf_core.proofs.UnderLaws.{under-ascending, length_of-under}
 use borrow.Author.Count.{below_more}
 
 -- ---- for any shelf: the entries before a place break no rule
@@ -35,20 +34,22 @@ pub record Passed (entries : List Entry) (lengths : List ℕ) (total index : ℕ
   pub adds : sum lengths ≡ total
   pub small : total ≤ 2 ^ 50
   pub passed : (k : ℕ) → k < index → fault_by_listing entries k ≡ None
+  pub texts : (k : ℕ) → k < index → IsUtf8 (entry_at entries k).name
 
 pub passed-none : (entries : List Entry) → Passed entries [] 0 0
-passed-none entries = record { counted = refl; adds = refl; small = omega arith; passed = λ k below. absurd (omega arith) }
+passed-none entries = record { counted = refl; adds = refl; small = omega arith; passed = λ k below. absurd (omega arith); texts = λ k below. absurd (omega arith) }
 
 sum-push : (lengths : List ℕ) (len : ℕ) → sum (lengths ++ len ∷ []) ≡ sum lengths + len
 sum-push lengths len = sum_by-append (λ x. x) lengths (len ∷ []) ∙ ap (λ n. sum lengths + n) (zero-add len)
 
 pub passed-more : (entries : List Entry) (lengths : List ℕ) (total index : ℕ) (name : List ℕ) (len : ℕ) → Passed entries lengths total index
-    → fault_by_listing entries index ≡ None → fault_by_file total name len ≡ None → Passed entries (lengths ++ len ∷ []) (total + len) (index + 1)
-passed-more entries lengths total index name len so_far listing file = record {
+    → fault_by_listing entries index ≡ None → fault_by_file total name len ≡ None → IsUtf8 (entry_at entries index).name → Passed entries (lengths ++ len ∷ []) (total + len) (index + 1)
+passed-more entries lengths total index name len so_far listing file text = record {
   counted = omega (arith, so_far.counted, length-append lengths (len ∷ []));
   adds = omega (arith, so_far.adds, sum-push lengths len);
   small = by_file-none total name len file;
   passed = below_more (λ k. fault_by_listing entries k ≡ None) index so_far.passed listing;
+  texts = below_more (λ k. IsUtf8 (entry_at entries k).name) index so_far.texts text;
 }
 
 -- ---- a plan of entries that all pass is sound
@@ -84,6 +85,7 @@ sound-is root entries lengths total index order whole so_far =
     let pass : (k : ℕ) → k < length entries → IsAdmitted entries k = λ k inside. admitted entries k inside (so_far.passed k (omega arith)) in
     record {
       few = omega (arith, few_names entries (length entries) refl pass, count_names entries);
+      texts = λ k d inside. subst IsUtf8 (sym (name_at entries k d inside)) (so_far.texts k (omega (arith, count_names entries)));
       relative = λ k d inside. subst (λ n. is_relative_name n ≡ true) (sym (name_at entries k d inside)) (pass k (omega (arith, count_names entries))).relative;
       ascending = λ k d inside.
           subst (λ n. IsBefore n (get_or (entry_names entries) (k + 1) d)) (sym (name_at entries k d (omega arith)))

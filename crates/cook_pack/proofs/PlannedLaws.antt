@@ -7,14 +7,14 @@ use Rattle.std.proofs.lemmas.Bool.{leb-true}
 use Rattle.std.proofs.lemmas.List.Elements.{All-push}
 use Rattle.md5.specs.Md5.{md5}
 use Rattle.cook_bits.specs.Names.{File, full_name, is_relative_name, IsRelativeName}
-use Rattle.shelf_core.specs.Told.{Told, IsTold, HasFile, IsApart, GrewPartly, content, grown}
+use Rattle.shelf_core.specs.Told.{Told, IsTold, HasFile, IsApart, GrewPartly, content, grown, no_file}
 use Rattle.shelf_core.proofs.FileLaws.{grown-nothing, HasFile-with_file, IsApart-with_file, IsTold-with_file}
 use Rattle.shelf_core.proofs.PieceLaws.{content-while_grown, IsTold-while_grown, grown-both, GrewPartly-first, GrewPartly-second}
 use Rattle.reversal.specs.declared.record.FileRecord.{FileRecord}
 use Rattle.reversal.specs.SideData.{HasShape}
 use Rattle.cook_pack.specs.Pieces.{attached_file}
 use Rattle.cook_pack.specs.Planned.{Planned, IsSound}
-use Rattle.cook_pack.specs.Package.{AreRecordsOf, CanAttach, IsRecordOf, attached_from, attachment_at, planned_files, no_file, record_of}
+use Rattle.cook_pack.specs.Package.{AreRecordsOf, CanAttach, IsRecordOf, attached_from, attachment_at, planned_files, record_of}
 
 -- what holds of the planned file at a place, whose name and full name are given
 pub record IsAt (told : Told) (plan : Planned) (to : List ℕ) (k : ℕ) (name from : List ℕ) : Type 0 where

@@ -4,7 +4,7 @@ use Rattle.std.specs.List.{slice_index_or as get_or}
 use Rattle.md5.specs.Md5.{md5}
 use Rattle.ebml_core.specs.Element.{element}
 use Rattle.cook_bits.specs.Names.{File, full_name}
-use Rattle.shelf_core.specs.Told.{Told, IsTold, HasFile, IsApart, content}
+use Rattle.shelf_core.specs.Told.{Told, IsTold, HasFile, IsApart, no_file, content}
 use Rattle.reversal.specs.declared.record.FileRecord.{FileRecord}
 use Rattle.reversal.specs.declared.record.Kind.TheVariants.{Other}
 use Rattle.reversal.specs.SideData.{HasShape, side_data_of, names_of}
@@ -39,9 +39,6 @@ package_of directory rate = package_bytes directory
 -- the files of a plan, with the contents that a shelf tells
 unfoldable pub planned_files : Told → Planned → List File
 planned_files told plan = map (λ name. (name, content told (full_name plan.root name))) plan.names
-
-abbrev pub no_file : File
-no_file = ([], [])
 
 -- the file at a place of a directory as an attachment, numbered from 1
 unfoldable pub attachment_at : List File → ℕ → List ℕ

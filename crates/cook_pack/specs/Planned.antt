@@ -1,5 +1,5 @@
 -- What a plan keeps: the root, and of each file its name and length. What the planning of a directory answers.
-use Rattle.std.specs.Prelude.{◌≡◌, ℕ, ◌^◌, ◌≤◌, List, length, map, sum, false, All, Some}
+use Rattle.std.specs.Prelude.{◌≡◌, ℕ, ◌^◌, ◌≤◌, List, length, map, sum, false, All, Some, IsUtf8}
 use Rattle.std.specs.List.{AllAdjacentBelow}
 use Rattle.std.specs.Ordering.{nat_cmp}
 use Rattle.std.specs.declared.cmp.Ordering.TheVariants.{Less}
@@ -20,10 +20,11 @@ pub record Planned : Type 0 where
 abbrev pub IsBefore : List ℕ → List ℕ → Type 0
 IsBefore name other = slice_cmp nat_cmp name other ≡ Less
 
--- What holds of a plan from any shelf: at most 1,000,000 relative names, each before the next in byte order and none under
+-- What holds of a plan from any shelf: at most 1,000,000 relative names, which are texts in UTF-8, each before the next in byte order and none under
 -- another, and their lengths, which add up to at most 2^50 bytes.
 pub record IsSound (plan : Planned) : Type 0 where
   pub few : length plan.names ≤ 1000000
+  pub texts : All IsUtf8 plan.names
   pub relative : All IsRelativeName plan.names
   pub ascending : AllAdjacentBelow IsBefore plan.names (length plan.names)
   pub apart : All (λ name. holds_folder_of plan.names name ≡ false) plan.names

@@ -1,7 +1,8 @@
 -- Why the writing of a package stops, and what shows it.
-use Rattle.std.specs.Prelude.{◌≡◌, ◌⊎◌, ℕ, ◌<◌, ◌≤◌, List, length, take}
+use Rattle.std.specs.Prelude.{◌≡◌, ℕ, ◌<◌, List}
 use Rattle.shelf_core.specs.Causes.{Rose}
-use Rattle.shelf_core.specs.Told.{Told, IsTold, HasFile, IsFree, Pending, with_file, with_pending}
+use Rattle.shelf_core.specs.Leaves.{Leaves}
+use Rattle.shelf_core.specs.Told.{Told, IsTold, HasFile, Pending}
 use Rattle.shelf_core.specs.declared.shelf.ShelfError.{ShelfError}
 use Rattle.shelf_core.specs.declared.shelf.ShelfError.TheVariants as shelf
 use Rattle.shelf_core.specs.declared.pieces.PieceError.{PieceError}
@@ -32,22 +33,6 @@ StopsFrom was piece.Failed Failed = Unit {0}
 StopsFrom was piece.NoMemory NoMemory = Unit {0}
 StopsFrom was (piece.Short at) NoMemory = Unit {0}
 StopsFrom was error answer = ⊥
-
--- nothing was changed
-pub record LeavesNothing (told after : Told) (pending pending_after : Pending) : Type 0 where
-  pub files : after ≡ told
-  pub unsealed : pending_after ≡ pending
-
--- the package's name was free, and it stands unsealed with a front of its bytes
-pub record LeavesPart (told after : Told) (pending pending_after : Pending) (pkg whole : List ℕ) : Type 0 where
-  pub free : IsFree told pkg
-  pub count : ℕ
-  pub within : count ≤ length whole
-  pub files : after ≡ with_file told pkg (take count whole)
-  pub unsealed : pending_after ≡ with_pending pending pkg
-
-abbrev pub Leaves : Told → Told → Pending → Pending → List ℕ → List ℕ → Type 0
-Leaves told after pending pending_after pkg whole = LeavesNothing told after pending pending_after ⊎ LeavesPart told after pending pending_after pkg whole
 
 -- the package's name is there already, and nothing was changed
 pub record IsInTheWay (told after : Told) (pending pending_after : Pending) (pkg name : List ℕ) : Type 0 where

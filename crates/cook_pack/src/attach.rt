@@ -2,19 +2,18 @@
 ghost use Rattle.std.specs.Prelude.{◌≡◌, ◌+◌, ◌<◌, ◌≤◌, ◌^◌, ◌++◌, ◌∷◌, length, slice_index_or, false, IfOk, OnOk, OnErr, IfErr};
 ghost use Rattle.shelf_core.specs.Pieces.{EndsWithin, IsNotShort};
 ghost use Rattle.shelf_core.specs.Causes.{Rose};
-ghost use Rattle.shelf_core.specs.Told.{Told, IsTold, HasFile, IsApart, IsPending, GrewPartly, content, grown};
+ghost use Rattle.shelf_core.specs.Told.{Told, IsTold, HasFile, IsApart, IsPending, GrewPartly, content, grown, no_file};
 ghost use Rattle.cook_pack.specs.Pieces.{attached_file};
-ghost use Rattle.cook_pack.specs.Package.{AreRecordsOf, CanAttach, IsRecordOf, attached_from, attachment_at, planned_files, no_file};
+ghost use Rattle.cook_pack.specs.Package.{AreRecordsOf, CanAttach, IsRecordOf, attached_from, attachment_at, planned_files};
 ghost use Rattle.cook_pack.specs.Stops.{StopsFor, StopsFrom};
 ghost use Rattle.md5.specs.Md5.{md5};
 
-use crate::copy::copy_file;
-use crate::names::full_name;
 use crate::pieces::attached_head;
 use crate::{PackError, Plan};
-use cook_bits::{Bytes, Name, NoMemory};
+use cook_bits::{Bytes, Name, NoMemory, full_name};
 use reversal::{FileRecord, Kind};
 use shelf_core::{PieceError, Shelf};
+use shelf_parts::{Part, copy_part};
 use std::alloc::{AllocError, Global};
 
 /// A file that is to be attached.
@@ -73,7 +72,12 @@ pub fn attach_file<S: Shelf>(
 {
     let head = attached_head(alloc, file.name, false, file.uid, file.len)?;
     shelf.append(to, head.as_slice())?;
-    match copy_file(shelf, from, file.len, to, buffer) {
+    let part = Part {
+        name: from,
+        at: 0,
+        len: file.len,
+    };
+    match copy_part(shelf, part, to, buffer) {
         Ok(sum) => Ok(sum),
         Err(error) => Err(not_copied(alloc, file, error)),
     }

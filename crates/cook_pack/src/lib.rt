@@ -2,10 +2,8 @@
 #![tactic(auto)]
 
 mod attach;
-mod copy;
 mod error;
 mod lengths;
-mod names;
 mod offence;
 mod packing;
 mod pieces;

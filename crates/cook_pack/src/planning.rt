@@ -1,5 +1,5 @@
 // The plan of a directory: its entries in byte order of names, each asked for its length and tried by the rules.
-ghost use Rattle.std.specs.Prelude.{◌≡◌, ◌^◌, ◌<◌, ◌≤◌, length, Some, None, IfOk, IfErr, IsTrue};
+ghost use Rattle.std.specs.Prelude.{◌≡◌, ◌^◌, ◌<◌, ◌≤◌, length, Some, None, IfOk, IfErr, IsTrue, IsUtf8};
 ghost use Rattle.cook_bits.specs.Names.{full_name};
 ghost use Rattle.shelf_core.specs.Causes.{HasCause};
 ghost use Rattle.shelf_core.specs.Listing.{plain_entries};
@@ -7,10 +7,9 @@ ghost use Rattle.shelf_core.specs.Told.{IsTold, length_of, under};
 ghost use Rattle.cook_pack.specs.Planned.{IsSound, Fits, IsPlanOf, IsNotPlanned};
 ghost use Rattle.cook_pack.specs.Entries.{AreInOrder, entry_at, IsBarred, Refuses, Misses, fault_by_listing, fault_by_file, planned};
 
-use crate::names::full_name;
 use crate::offence::{fault_by_file, fault_by_listing};
 use crate::{PackError, Plan, RefuseWhy};
-use cook_bits::{Name, NoMemory};
+use cook_bits::{Name, NoMemory, full_name};
 use shelf_core::{Entry, Shelf, ShelfError};
 use std::alloc::Global;
 
@@ -76,6 +75,7 @@ fn admitted_length<S: Shelf>(
     requires inside { index < length entries.now }
     requires small { total ≤ 2 ^ 50 }
     ensures listed { IfOk result (λ _. fault_by_listing entries.now index ≡ None) }
+    ensures text { IfOk result (λ _. IsUtf8 (entry_at entries.now index).name) }
     ensures filed { IfOk result (λ len. fault_by_file total (entry_at entries.now index).name len ≡ None) }
     ensures measured { IfOk result (λ len. IsTold (S.files shelf.old) → length_of (S.files shelf.old) (full_name root.now (entry_at entries.now index).name) ≡ Some len) }
     ensures barred { IfErr result (λ error. IsBarred (S.files shelf.old) root.now entries.now index total (S.faults shelf.old) (S.faults shelf.new) error) }

@@ -4,7 +4,8 @@ use Rattle.shelf_core.specs.Told.{HasFile, IsPending, without_pending}
 use Rattle.shelf_core.proofs.FileLaws.{HasFile-itself, IsPending-with_pending, without-with_pending}
 use Rattle.cook_pack.specs.Package.{CanAttach}
 use Rattle.cook_pack.proofs.FitLaws.{can_attach, part-fits, whole-fits, sum-fits, IsTold-created}
-use Rattle.cook_pack.proofs.LeftLaws.{left_part, left_whole, left_stopped, left_shelf, cause_stopped}
+use Rattle.shelf_core.proofs.LeftLaws.{left_part, left_whole}
+use Rattle.cook_pack.proofs.LeftLaws.{left_stopped, left_shelf, cause_stopped}
 use Rattle.cook_pack.proofs.packing.pack.Goals as goal
 
 pub write_package-requires-clause-ready : goal.write_package-requires-clause-ready

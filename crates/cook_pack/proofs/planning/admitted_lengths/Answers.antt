@@ -27,7 +27,7 @@ overflow_add-total g c = omega (arith, by_file-none _ _ _ c.in_ok-len.ensures.fi
 
 pub loop-index-preserved : goal.loop-index-preserved
 loop-index-preserved g c = record {
-  passed = rw c.in_ok-push.ensures.items (passed-more c.args.entries.now c.loop-index.lengths.items c.loop-index.total c.loop-index.index _ c.in_ok-len.len c.loop-index.invariant.passed c.in_ok-len.ensures.listed c.in_ok-len.ensures.filed);
+  passed = rw c.in_ok-push.ensures.items (passed-more c.args.entries.now c.loop-index.lengths.items c.loop-index.total c.loop-index.index _ c.in_ok-len.len c.loop-index.invariant.passed c.in_ok-len.ensures.listed c.in_ok-len.ensures.filed c.in_ok-len.ensures.text);
   followed = rw c.in_ok-push.ensures.items (followed-next (g.S.Shelf.files c.args.shelf.now) (g.S.Shelf.files c.loop-index.shelf) c.args.root.now c.args.entries.now c.loop-index.lengths.items c.loop-index.total c.loop-index.index c.in_ok-len.len
       c.loop-index.invariant.files c.requires.listed (omega arith) c.loop-index.invariant.passed.adds c.in_ok-len.ensures.measured c.in_ok-len.ensures.listed c.in_ok-len.ensures.filed c.loop-index.invariant.followed);
   files = search rules;
