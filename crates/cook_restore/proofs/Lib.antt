@@ -1,8 +1,14 @@
 pub mod AttachedLaws
+pub mod ContentLaws
 pub mod ElementLaws
 pub mod FileLaws
+pub mod GiveLaws
 pub mod HeaderLaws
+pub mod MeaningLaws
+pub mod NextLaws
+pub mod OpenLaws
 pub mod SeenLaws
 pub mod TopLaws
 pub mod WalkLaws
 pub mod WindowLaws
+pub mod SpelledWalk

@@ -1,6 +1,10 @@
 -- What a package holds, and what a reading of it answers.
+pub mod Contents
+pub mod Giving
 pub mod Identifiers
 pub mod Inside
+pub mod Meaning
 pub mod Outline
+pub mod Restoring
 pub mod Seen
 pub mod Walk

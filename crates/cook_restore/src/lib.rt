@@ -1,6 +1,21 @@
-//! Restoring: so far the outline of a package, which says what it holds and where.
+//! Restoring: what a package holds, what it means, and its files given back one by one.
 #![tactic(auto)]
 
+mod contents;
+mod error;
+mod giving;
+pub mod laws;
 mod matroska_read;
+mod next;
+mod opening;
+mod restorer;
+#[cfg(test)]
+mod samples;
+mod stop;
+#[cfg(test)]
+mod tests;
 
+pub use error::{FileError, FileWhy, PackageWhy, RestoreError};
 pub use matroska_read::{FileAt, Outline, OutlineError, outline};
+pub use opening::open_package;
+pub use restorer::{FileSum, Restorer};

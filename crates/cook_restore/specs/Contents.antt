@@ -1,0 +1,33 @@
+-- Where the content of each record's file stands in the package, as a restorer keeps it.
+use Rattle.std.specs.Prelude.{ℕ, ◌+◌, ◌≤◌, List, take, drop, map, Option, Some, None, Result, Err}
+use Rattle.reversal.specs.declared.record.FileRecord.{FileRecord}
+use Rattle.cook_restore.specs.declared.matroska_read.files.FileAt.{FileAt}
+use Rattle.cook_restore.specs.declared.contents.Content.{Content}
+use Rattle.cook_restore.specs.declared.error.FileWhy.{FileWhy}
+use Rattle.cook_restore.specs.declared.error.FileWhy.TheVariants as file
+use Rattle.cook_restore.specs.Meaning.{attached_as, others_of, checked}
+
+abbrev pub place_of : FileAt → Content
+place_of file = record { at = file.at; len = file.len }
+
+-- the place of the first file of a name, and where there is none, another place
+unfoldable pub place_or : Option Content → Option FileAt → Option Content
+place_or other None = other
+place_or other (Some file) = Some (place_of file)
+
+-- the place of the content of a record's file
+unfoldable pub content_place : List FileAt → FileRecord → Option Content
+content_place attached said = place_or None (attached_as said.name (others_of attached))
+
+-- the places for all records
+unfoldable pub content_places : List FileAt → List FileRecord → List (Option Content)
+content_places attached records = map (content_place attached) records
+
+-- the content ends at a place or before
+abbrev pub PlaceEndsBy : ℕ → Content → Type 0
+PlaceEndsBy end content = content.at + content.len ≤ end
+
+-- a content at a place, checked against what its record says
+unfoldable pub content_found : FileRecord → List ℕ → Option Content → Result (List ℕ) FileWhy
+content_found said bytes None = Err file.Missing
+content_found said bytes (Some content) = checked said (take content.len (drop content.at bytes))

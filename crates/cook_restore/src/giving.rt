@@ -1,0 +1,161 @@
+// A file is given back: its content is checked whole, then written in the target, and sealed.
+ghost use Rattle.std.specs.Prelude.{◌≡◌, ◌+◌, ◌<◌, ◌≤◌, ◌^◌, length, Some, IfOk, IfErr, OnOk, OnErr, IfSome};
+ghost use Rattle.shelf_core.specs.Causes.{HasCause};
+ghost use Rattle.shelf_core.specs.Told.{IsTold, HasFile, IsFree, content, with_file};
+ghost use Rattle.cook_restore.specs.Contents.{PlaceEndsBy};
+ghost use Rattle.cook_restore.specs.Giving.{IsChecked, NotChecked, NotWritten, IsContentGiven, NotGiven, bytes_told, target_of};
+ghost use Rattle.cook_restore.specs.Seen.{IsKept};
+
+use crate::FileWhy;
+use crate::contents::Content;
+use crate::stop::Stop;
+use cook_bits::full_name;
+use reversal::FileRecord;
+use shelf_core::{Shelf, ShelfError};
+use shelf_parts::{Part, copy_part, sum_part};
+use std::alloc::Global;
+
+/// The package from which files are given: its name, and its length in bytes.
+#[derive(Clone, Copy, Debug)]
+pub struct Package<'a> {
+    pub name: &'a str,
+    pub len: u64,
+}
+
+/// A file that is to be given.
+#[derive(Clone, Copy, Debug)]
+pub struct Task<'a> {
+    /// What the side data says of it.
+    pub said: &'a FileRecord,
+    /// Where its content stands in the package, if it is attached.
+    pub content: Option<Content>,
+    /// The root under which it is to stand, if it is to be written.
+    pub target: Option<&'a str>,
+    /// The relative name of the file that was given before it; the first has none.
+    pub before: &'a str,
+}
+
+// Checks the content of a file: it is attached, and of the length and the sum that its record says.
+
+fn checked_content<S: Shelf>(
+    shelf: &mut S,
+    pkg: Package<'_>,
+    said: &FileRecord,
+    content: Option<Content>,
+    buffer: &mut [u8],
+) -> Result<Content, Stop>
+    requires there { HasFile (S.files shelf.old) pkg.name.now }
+    requires ends { IfSome content (PlaceEndsBy pkg.len) }
+    requires room { 0 < length buffer.old }
+    ensures same { IfOk result (λ found. content ≡ Some found) }
+    ensures checked { IfOk result (IsChecked (S.files shelf.old) pkg.entry.name.now said.now) }
+    ensures stopped { IfErr result (NotChecked (S.files shelf.old) pkg.entry.name.now pkg.entry.len said.now content (S.faults shelf.old) (S.faults shelf.new)) }
+    ensures kept { IsKept (S.files shelf.old) (S.files shelf.new) (S.unsealed shelf.old) (S.unsealed shelf.new) (S.faults shelf.old) (S.faults shelf.new) (S.starved shelf.old) (S.starved shelf.new) }
+{
+    let Some(content) = content else {
+        return Err(Stop::File(FileWhy::Missing));
+    };
+    if content.len != said.length {
+        return Err(Stop::File(FileWhy::Length));
+    }
+    let part = Part {
+        name: pkg.name,
+        at: content.at,
+        len: content.len,
+    };
+    match sum_part(shelf, part, buffer) {
+        Ok(sum) if sum == said.md5 => Ok(content),
+        Ok(_) => Err(Stop::File(FileWhy::Sum)),
+        Err(error) => Err(Stop::of_piece(pkg.len, error)),
+    }
+}
+
+// How many bytes two texts have in common at their front.
+fn common_front(text: &str, other: &str) -> usize {
+    let pairs = text.bytes().zip(other.bytes());
+    pairs.take_while(|(byte, other)| byte == other).count()
+}
+
+// Makes the folders in which a file of this full name is to stand, the shorter first. Those whose names end within the
+// first `known` bytes are there already.
+fn make_folders<S: Shelf>(shelf: &mut S, full: &str, known: usize) -> Result<(), ShelfError>
+    ensures files { S.files shelf.new ≡ S.files shelf.old }
+    ensures unsealed { S.unsealed shelf.new ≡ S.unsealed shelf.old }
+    ensures cause { HasCause ShelfError.Failed ShelfError.NoMemory (S.faults shelf.old) (S.faults shelf.new) (S.starved shelf.old) (S.starved shelf.new) result }
+{
+    let bytes = full.as_bytes();
+    for at in known..bytes.len() {
+        if bytes[at] == b'/' {
+            if let Some(folder) = full.get(..at) {
+                shelf.make_folder(folder)?;
+            }
+        }
+    }
+    Ok(())
+}
+
+// Writes a checked content as a new file, and seals it. Other bytes at this second reading are a fault of the file.
+#[tactic(auto, using(shelf_core::proofs::FileLaws::file_laws))]
+fn write_content<S: Shelf>(
+    shelf: &mut S,
+    pkg: Package<'_>,
+    said: &FileRecord,
+    content: Content,
+    to: &str,
+    buffer: &mut [u8],
+) -> Result<(), Stop>
+    requires there { HasFile (S.files shelf.old) pkg.name.now }
+    requires ends { PlaceEndsBy pkg.len content }
+    requires checked { IsChecked (S.files shelf.old) pkg.name.now said.now content }
+    requires room { 0 < length buffer.old }
+    ensures free { OnOk result (IsFree (S.files shelf.old) to.now) }
+    ensures written { OnOk result (S.files shelf.new ≡ with_file (S.files shelf.old) to.now (bytes_told (S.files shelf.old) pkg.entry.name.now content)) }
+    ensures sealed { OnOk result (S.unsealed shelf.new ≡ S.unsealed shelf.old) }
+    ensures stopped { IfErr result (NotWritten (S.files shelf.old) (S.files shelf.new) (S.unsealed shelf.old) (S.unsealed shelf.new) (S.faults shelf.old) (S.faults shelf.new) to.now (bytes_told (S.files shelf.old) pkg.entry.name.now content)) }
+    ensures kept { S.faults shelf.old ≤ S.faults shelf.new }
+{
+    shelf.create(to)?;
+    let part = Part {
+        name: pkg.name,
+        at: content.at,
+        len: content.len,
+    };
+    match copy_part(shelf, part, to, buffer) {
+        Ok(sum) if sum == said.md5 => {}
+        Ok(_) => return Err(Stop::File(FileWhy::Sum)),
+        Err(error) => return Err(Stop::of_piece(pkg.len, error)),
+    }
+    shelf.seal(to)?;
+    Ok(())
+}
+
+/// Gives a file: checks its content whole, then writes it under the target, if there is one, and seals it. Answers the
+/// length of the content in bytes.
+
+pub fn give<S: Shelf>(
+    alloc: Global,
+    shelf: &mut S,
+    pkg: Package<'_>,
+    task: Task<'_>,
+    buffer: &mut [u8],
+) -> Result<u64, Stop>
+    requires there { HasFile (S.files shelf.old) pkg.name.now }
+    requires ends { IfSome task.content (PlaceEndsBy pkg.len) }
+    requires room { 0 < length buffer.old }
+    ensures given { IfOk result (IsContentGiven (S.files shelf.old) (S.files shelf.new) (S.unsealed shelf.old) (S.unsealed shelf.new) pkg.entry.name.now pkg.entry.len task.entry.said.now task.entry.content (target_of task.entry)) }
+    ensures stopped { IfErr result (NotGiven (S.files shelf.old) (S.files shelf.new) (S.unsealed shelf.old) (S.unsealed shelf.new) (S.faults shelf.old) (S.faults shelf.new) pkg.entry.name.now pkg.entry.len task.entry.said.now task.entry.content (target_of task.entry)) }
+    ensures kept { S.faults shelf.old ≤ S.faults shelf.new }
+{
+    let content = checked_content(shelf, pkg, task.said, task.content, buffer)?;
+    if let Some(dir) = task.target {
+        let name = task.said.name.as_str();
+        let full = full_name(alloc, dir, name)?;
+        let known = dir
+            .len()
+            .saturating_add(1)
+            .saturating_add(common_front(name, task.before));
+        make_folders(shelf, full.as_str(), known)?;
+        write_content(shelf, pkg, task.said, content, full.as_str(), buffer)?;
+    }
+    Ok(content.len)
+}

@@ -1,0 +1,106 @@
+// The files of an open package, one by one.
+ghost use Rattle.std.specs.Prelude.{◌≡◌, ◌≤◌, ◌<◌, length, IfOk, IfErr, OnErr};
+ghost use Rattle.std.specs.Option.{option_map};
+ghost use Rattle.shelf_core.specs.Told.{IsTold, HasFile, content};
+ghost use Rattle.cook_restore.specs.Contents.{content_place};
+ghost use Rattle.cook_restore.specs.Giving.{IsContentGiven, NotGiven};
+ghost use Rattle.cook_restore.specs.Restoring.{KeepsPackage, GivesNext, IsNotGiven, IsEnded, record_at};
+
+use crate::giving::{Package, Task, give};
+use crate::stop::Stop;
+use crate::{FileError, FileSum, Restorer};
+use cook_bits::Name;
+use reversal::FileRecord;
+use shelf_core::Shelf;
+use std::alloc::Global;
+
+// The root under which files are to stand, if they are to be written.
+fn root_of(target: &Option<Name>) -> Option<&str>
+    ensures { option_map (λ dir. dir.now) result ≡ target.now }
+{
+    match target {
+        Some(dir) => Some(dir.as_str()),
+        None => None,
+    }
+}
+
+// The name of the record before that of a number; the first has none.
+fn name_before(records: &[FileRecord], number: usize) -> &str
+    requires { number ≤ length records.now }
+{
+    match number.checked_sub(1) {
+        Some(before) => records[before].name.as_str(),
+        None => "",
+    }
+}
+
+impl Restorer {
+    /// Gives the next file. Its content is read whole and checked by its length and its MD5, and only then its file is
+    /// created in the target, written from a second reading, and sealed. Before that the folders of its name are made.
+    ///
+    /// The answer is `None` where all files were given or an earlier call was refused. `File` comes where the meaning of the
+    /// package ends with this file's fault, `InTheWay` where a file of its full name is there, `Changed` where the package
+    /// gave fewer bytes than it had. After `Failed` and `NoMemory` the file may stand with a front of its content, unsealed;
+    /// any other answer leaves the shelf's files as they were, or with the file.
+    pub fn next_file<S: Shelf>(
+        &mut self,
+        alloc: Global,
+        shelf: &mut S,
+    ) -> Result<Option<FileSum>, FileError>
+        requires there { HasFile (S.files shelf.old) self.old.pkg }
+        ensures given { IfOk result (GivesNext (S.files shelf.old) (S.files shelf.new) (S.unsealed shelf.old) (S.unsealed shelf.new) self.old self.new) }
+        ensures stopped { IfErr result (IsNotGiven (S.files shelf.old) (S.files shelf.new) (S.unsealed shelf.old) (S.unsealed shelf.new) (S.faults shelf.old) (S.faults shelf.new) self.old) }
+        ensures ended { OnErr result (IsEnded self.old self.new) }
+        ensures kept { KeepsPackage self.old self.new }
+        ensures stays { IsTold (S.files shelf.old) → content (S.files shelf.new) self.old.pkg ≡ content (S.files shelf.old) self.old.pkg }
+        ensures still_there { HasFile (S.files shelf.new) self.old.pkg }
+        ensures faults { S.faults shelf.old ≤ S.faults shelf.new }
+    {
+        let number = self.number as usize;
+        if self.ended || number >= self.records.len() {
+            return Ok(None);
+        }
+        match self.give_file(alloc, shelf, number) {
+            Ok(length) => {
+                let sum = FileSum {
+                    number: self.number,
+                    length,
+                };
+                self.number += 1;
+                Ok(Some(sum))
+            }
+            Err(stop) => {
+                self.ended = true;
+                Err(stop.of_file(self.number))
+            }
+        }
+    }
+
+    // Gives the file of a number.
+    fn give_file<S: Shelf>(
+        &mut self,
+        alloc: Global,
+        shelf: &mut S,
+        number: usize,
+    ) -> Result<u64, Stop>
+        requires inside { number < length self.old.records.items }
+        requires there { HasFile (S.files shelf.old) self.old.pkg }
+        ensures given { IfOk result (IsContentGiven (S.files shelf.old) (S.files shelf.new) (S.unsealed shelf.old) (S.unsealed shelf.new) self.old.pkg self.old.len (record_at self.old number) (content_place self.old.outline (record_at self.old number)) self.old.target) }
+        ensures stopped { IfErr result (NotGiven (S.files shelf.old) (S.files shelf.new) (S.unsealed shelf.old) (S.unsealed shelf.new) (S.faults shelf.old) (S.faults shelf.new) self.old.pkg self.old.len (record_at self.old number) (content_place self.old.outline (record_at self.old number)) self.old.target) }
+        ensures kept { KeepsPackage self.old self.new }
+        ensures same { (self.new.number ≡ self.old.number) × (self.new.ended ≡ self.old.ended) }
+        ensures faults { S.faults shelf.old ≤ S.faults shelf.new }
+    {
+        let package = Package {
+            name: self.pkg.as_str(),
+            len: self.len,
+        };
+        let task = Task {
+            said: &self.records[number],
+            content: self.contents[number],
+            target: root_of(&self.target),
+            before: name_before(&self.records, number),
+        };
+        give(alloc, shelf, package, task, self.buffer.as_mut_slice())
+    }
+}
