@@ -1,23 +1,22 @@
 -- The laws of the top call, put together from those of plan, pack and the report.
-use Rattle.std.proofs.Common.{◌≡◌, ◌⊎◌, inl, inr, ℕ, ◌+◌, ◌≤◌, List, [], ◌∷◌, ◌++◌, length, take, Option, Some, None, refl, sym, ap, ◌∙◌, subst, arith, min}
+use Rattle.std.proofs.Common.{◌≡◌, inl, inr, ℕ, ◌≤◌, List, length, Some, None, sym, ap, ◌∙◌, subst, arith}
 use Rattle.std.proofs.Math.Seq.{take-length}
-use Rattle.shelf_core.specs.Causes.{Rose}
-use Rattle.shelf_core.specs.Told.{Told, IsTold, HasFile, IsFree, Pending, under, with_file}
+use Rattle.shelf_core.specs.Told.{Told, IsTold, Pending, under}
 use Rattle.shelf_core.specs.Report.{Text, with_text, WrittenPartly}
 use Rattle.cook_pack.specs.Offence.{IsInProfile}
 use Rattle.cook_pack.specs.Package.{package_of}
-use Rattle.cook_pack.specs.Planned.{Planned, Fits, IsPlanOf, IsNotPlanned}
-use Rattle.cook_pack.specs.Stops.{Leaves, LeavesFor, LeavesNothing, LeavesPart, IsNotPacked}
+use Rattle.cook_pack.specs.Planned.{IsNotPlanned}
+use Rattle.shelf_core.specs.Leaves.{Leaves}
+use Rattle.cook_pack.specs.Stops.{LeavesFor, IsNotPacked}
 use Rattle.cook_pack.specs.declared.error.PackError.{PackError}
 use Rattle.cook_pack.specs.declared.error.PackError.TheVariants as pack
-use Rattle.cook_top.specs.Laws.{PackLaw, IsPacked, IsPackedPartly, IsStopped, IsInTheWay, KeepsUnsealed, IsShown, IsDoneOr, IsWritten, Reports, report_of, text_of, usual_rate}
+use Rattle.cook_top.specs.Laws.{PackLaw, IsStopped, KeepsUnsealed, IsShown, IsDoneOr, IsWritten, Reports, report_of, text_of, usual_rate}
 use Rattle.cook_pack.specs.Sum.{IsSumOf}
 use Rattle.cook_pack.specs.declared.packing.PackSum.{PackSum}
-use Rattle.cook_top.specs.Orders.{Order}
 use Rattle.cook_top.specs.Orders.Order.{Pack}
 use Rattle.cook_top.specs.Texts.{pack_line}
 use Rattle.cook_top.specs.declared.status.Status.{Status}
-use Rattle.cook_top.specs.declared.status.Status.TheVariants.{Done, Usage, Refused, InTheWay, ShelfFault, NoMemory, ReportFault, Changed, Missing}
+use Rattle.cook_top.specs.declared.status.Status.TheVariants.{Done, ReportFault}
 use Rattle.cook_top.specs.Statuses.{status_of_pack_error}
 
 -- ---- plan was refused
@@ -38,13 +37,13 @@ unsealed_unplanned pending after pack.NoMemory same = tt
 unsealed_unplanned pending after (pack.InTheWay name) same = same
 unsealed_unplanned pending after (pack.Changed name was now) same = tt
 
-pub shown_unplanned : (told : Told) (dir : List ℕ) (faults faults_now sink sink_now : ℕ) (error : PackError) → IsNotPlanned told dir faults faults_now error → IsShown told faults faults_now sink sink_now (status_of_pack_error error)
-shown_unplanned told dir faults faults_now sink sink_now (pack.Refused name why) is = tt
-shown_unplanned told dir faults faults_now sink sink_now (pack.Missing name) is = is
-shown_unplanned told dir faults faults_now sink sink_now pack.Failed is = is
-shown_unplanned told dir faults faults_now sink sink_now pack.NoMemory is = tt
-shown_unplanned told dir faults faults_now sink sink_now (pack.InTheWay name) is = tt
-shown_unplanned told dir faults faults_now sink sink_now (pack.Changed name was now) is = absurd is
+pub shown_unplanned : (told : Told) (dir pkg : List ℕ) (faults faults_now sink sink_now : ℕ) (error : PackError) → IsNotPlanned told dir faults faults_now error → IsShown (Some (Pack dir pkg)) told faults faults_now sink sink_now (status_of_pack_error error)
+shown_unplanned told dir pkg faults faults_now sink sink_now (pack.Refused name why) is = tt
+shown_unplanned told dir pkg faults faults_now sink sink_now (pack.Missing name) is = is
+shown_unplanned told dir pkg faults faults_now sink sink_now pack.Failed is = is
+shown_unplanned told dir pkg faults faults_now sink sink_now pack.NoMemory is = tt
+shown_unplanned told dir pkg faults faults_now sink sink_now (pack.InTheWay name) is = tt
+shown_unplanned told dir pkg faults faults_now sink sink_now (pack.Changed name was now) is = absurd is
 
 -- ---- pack was stopped
 
@@ -69,13 +68,13 @@ unsealed_unpacked told after pending pending_after pkg whole pack.NoMemory left 
 unsealed_unpacked told after pending pending_after pkg whole (pack.Refused name why) left = absurd left
 unsealed_unpacked told after pending pending_after pkg whole (pack.Missing name) left = absurd left
 
-pub shown_unpacked : (told : Told) (faults faults_then faults_now sink sink_now : ℕ) (error : PackError) → faults ≤ faults_then → IsNotPacked told faults_then faults_now error → IsShown told faults faults_now sink sink_now (status_of_pack_error error)
-shown_unpacked told faults faults_then faults_now sink sink_now (pack.InTheWay name) fell why = tt
-shown_unpacked told faults faults_then faults_now sink sink_now (pack.Changed name was now) fell why = why
-shown_unpacked told faults faults_then faults_now sink sink_now pack.Failed fell why = omega arith
-shown_unpacked told faults faults_then faults_now sink sink_now pack.NoMemory fell why = tt
-shown_unpacked told faults faults_then faults_now sink sink_now (pack.Refused name reason) fell why = absurd why
-shown_unpacked told faults faults_then faults_now sink sink_now (pack.Missing name) fell why = absurd why
+pub shown_unpacked : (told : Told) (dir pkg : List ℕ) (faults faults_then faults_now sink sink_now : ℕ) (error : PackError) → faults ≤ faults_then → IsNotPacked told faults_then faults_now error → IsShown (Some (Pack dir pkg)) told faults faults_now sink sink_now (status_of_pack_error error)
+shown_unpacked told dir pkg faults faults_then faults_now sink sink_now (pack.InTheWay name) fell why = tt
+shown_unpacked told dir pkg faults faults_then faults_now sink sink_now (pack.Changed name was now) fell why = why
+shown_unpacked told dir pkg faults faults_then faults_now sink sink_now pack.Failed fell why = omega arith
+shown_unpacked told dir pkg faults faults_then faults_now sink sink_now pack.NoMemory fell why = tt
+shown_unpacked told dir pkg faults faults_then faults_now sink sink_now (pack.Refused name reason) fell why = absurd why
+shown_unpacked told dir pkg faults faults_then faults_now sink sink_now (pack.Missing name) fell why = absurd why
 
 -- ---- reports
 

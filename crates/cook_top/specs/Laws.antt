@@ -6,11 +6,13 @@ use Rattle.shelf_core.specs.Report.{Text, with_text, WrittenPartly}
 use Rattle.cook_pack.specs.Offence.{IsInProfile, IsOfPlainFile, offence_of_directory}
 use Rattle.cook_pack.specs.Package.{package_of}
 use Rattle.cook_pack.specs.declared.error.RefuseWhy.{RefuseWhy}
+use Rattle.cook_restore.specs.Meaning.{meaning_of}
 use Rattle.cook_top.specs.Orders.{Order}
-use Rattle.cook_top.specs.Orders.Order.{Pack}
-use Rattle.cook_top.specs.Texts.{line_of, pack_line}
+use Rattle.cook_top.specs.Orders.Order.{Pack, Restore}
+use Rattle.cook_top.specs.RestoreLaw.{RestoreLaw, RestoreFirst, meant, total_length}
+use Rattle.cook_top.specs.Texts.{line_of, pack_line, restore_line}
 use Rattle.cook_top.specs.declared.status.Status.{Status}
-use Rattle.cook_top.specs.declared.status.Status.TheVariants.{Done, Usage, Refused, InTheWay, ShelfFault, NoMemory, ReportFault, Changed, Missing}
+use Rattle.cook_top.specs.declared.status.Status.TheVariants.{Done, Usage, Refused, PackageRefused, InTheWay, ShelfFault, NoMemory, ReportFault, Changed, Missing}
 
 -- frames a second, where no option says otherwise
 abbrev pub usual_rate : ℕ
@@ -31,11 +33,13 @@ pub record IsInTheWay (told after : Told) (dir pkg name : List ℕ) : Type 0 whe
   pub there : HasFile told pkg
   pub files : after ≡ told
 
--- The directory is in the profile, the package's name was free, and now has the one defined package.
+-- The directory is in the profile, the package's name was free, and now has the one defined package, which means the
+-- directory: restoring it gives the directory back.
 pub record IsPacked (told after : Told) (dir pkg : List ℕ) : Type 0 where
   pub profile : IsTold told → IsInProfile (under told dir)
   pub free : IsFree told pkg
   pub files : after ≡ with_file told pkg (package_of (under told dir) usual_rate)
+  pub means : IsTold told → meaning_of (package_of (under told dir) usual_rate) ≡ record { files = under told dir; end = None }
 
 -- The directory is in the profile, the package's name was free, and now has a front of the one defined package.
 pub record IsPackedPartly (told after : Told) (dir pkg : List ℕ) : Type 0 where
@@ -59,12 +63,14 @@ PackLaw told after dir pkg ShelfFault = IsStopped told after dir pkg
 PackLaw told after dir pkg NoMemory = IsStopped told after dir pkg
 PackLaw told after dir pkg (Changed name was now) = IsTold told → ⊥
 PackLaw told after dir pkg (Missing name) = IsTold told → ⊥
+PackLaw told after dir pkg (PackageRefused why) = ⊥
 PackLaw told after dir pkg Usage = ⊥
 
 -- the answers of an order; without one the files are as before
 abbrev pub ObeysOrder : Option Order → Told → Told → Status → Type 0
 ObeysOrder None told after status = after ≡ told
 ObeysOrder (Some (Pack dir pkg)) told after status = PackLaw told after dir pkg status
+ObeysOrder (Some (Restore pkg dir)) told after status = RestoreLaw told after pkg dir status
 
 -- what was written is sealed, but after a fault, want of memory or a file that changed
 abbrev pub KeepsUnsealed : Pending → Pending → Status → Type 0
@@ -75,17 +81,22 @@ KeepsUnsealed pending after status = after ≡ pending
 
 -- ---- the cause law
 
--- what shows an answer, for every shelf: a count that rose, or lengths of a file
-abbrev pub IsShown : Told → ℕ → ℕ → ℕ → ℕ → Status → Type 0
-IsShown told faults faults_now sink sink_now ShelfFault = Rose faults faults_now
-IsShown told faults faults_now sink sink_now ReportFault = Rose sink sink_now
-IsShown told faults faults_now sink sink_now (Changed name was now) = (IsTold told → ⊥) × (now < was)
-IsShown told faults faults_now sink sink_now (Missing name) = IsTold told → ⊥
-IsShown told faults faults_now sink sink_now status = Unit {0}
+-- a file that isn't there: restore may find its package so, and pack only a file that a shelf lists and has not
+abbrev pub MayMiss : Option Order → Told → Type 0
+MayMiss (Some (Restore pkg dir)) told = Unit {0}
+MayMiss order told = IsTold told → ⊥
+
+-- what shows an answer of an order, for every shelf: a count that rose, or lengths of a file
+abbrev pub IsShown : Option Order → Told → ℕ → ℕ → ℕ → ℕ → Status → Type 0
+IsShown order told faults faults_now sink sink_now ShelfFault = Rose faults faults_now
+IsShown order told faults faults_now sink sink_now ReportFault = Rose sink sink_now
+IsShown order told faults faults_now sink sink_now (Changed name was now) = (IsTold told → ⊥) × (now < was)
+IsShown order told faults faults_now sink sink_now (Missing name) = MayMiss order told
+IsShown order told faults faults_now sink sink_now status = Unit {0}
 
 -- ---- the completeness law
 
--- the one answer of each case, or want of memory
+-- the one answer of each case of pack, or want of memory
 abbrev pub IsFirstAnswer : Told → List ℕ → List ℕ → Status → Type 0
 IsFirstAnswer told dir pkg (Refused name why) = offence_of_directory (under told dir) ≡ Some (name, why)
 IsFirstAnswer told dir pkg (InTheWay name) = IsInProfile (under told dir) × HasFile told pkg × (name ≡ pkg)
@@ -96,6 +107,7 @@ IsFirstAnswer told dir pkg status = ⊥
 abbrev pub AnswersFirst : Option Order → Told → Status → Type 0
 AnswersFirst None told status = Unit {0}
 AnswersFirst (Some (Pack dir pkg)) told status = IsFirstAnswer told dir pkg status
+AnswersFirst (Some (Restore pkg dir)) told status = RestoreFirst told pkg dir status
 
 -- ---- the report law
 
@@ -104,6 +116,8 @@ unfoldable pub report_of : Option Order → Told → Option (List ℕ)
 report_of None told = None
 report_of (Some (Pack dir pkg)) None = None
 report_of (Some (Pack dir pkg)) (Some files) = Some (pack_line (length (under (Some files) dir)) 0 0 (length (package_of (under (Some files) dir) usual_rate)))
+report_of (Some (Restore pkg dir)) None = None
+report_of (Some (Restore pkg dir)) (Some files) = Some (restore_line (length (meant (Some files) pkg).files) (total_length (meant (Some files) pkg).files))
 
 -- the text that belongs to a status
 abbrev pub text_of : Option Order → Told → Status → Option (List ℕ)

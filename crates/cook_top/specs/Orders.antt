@@ -3,9 +3,10 @@ use Rattle.std.specs.Prelude.{ℕ, ◌-◌, Bool, ◌&&◌, not, List, [], ◌�
 use Rattle.std.specs.List.{list_any}
 use Rattle.cook_bits.specs.Names.{is_same_name}
 
--- to put the files under the root `dir` into the package `pkg`
+-- to put the files under the root `dir` into the package `pkg`, or to give the files of a package back under a root
 pub data Order : Type 0 where
   Pack : (dir pkg : List ℕ) → Order
+  Restore : (pkg dir : List ℕ) → Order
 
 -- the first byte is a dash (byte 45)
 abbrev pub begins_with_dash : List ℕ → Bool
@@ -29,11 +30,26 @@ unfoldable pub without_end_slashes : List ℕ → List ℕ
 without_end_slashes [] = []
 without_end_slashes (byte ∷ rest) = with_front byte (without_end_slashes rest)
 
--- two names, of which the second is no folder's
+-- a name that is no folder's
+abbrev pub is_file_name : List ℕ → Bool
+is_file_name word = is_name word && not (ends_with_slash word)
+
+-- a root and a package
 unfoldable pub pack_order_of : List ℕ → List ℕ → Option Order
-pack_order_of dir pkg = if is_name dir && (is_name pkg && not (ends_with_slash pkg)) then Some (Pack (without_end_slashes dir) pkg) else None
+pack_order_of dir pkg = if is_name dir && is_file_name pkg then Some (Pack (without_end_slashes dir) pkg) else None
+
+-- a package and a root
+unfoldable pub restore_order_of : List ℕ → List ℕ → Option Order
+restore_order_of pkg dir = if is_file_name pkg && is_name dir then Some (Restore pkg (without_end_slashes dir)) else None
+
+-- the order that a command and two words behind it are, if they are one
+unfoldable pub command_order_of : List ℕ → List ℕ → List ℕ → Option Order
+command_order_of command first second =
+    if is_same_name command (codes "pack") then pack_order_of first second
+    else (if is_same_name command (codes "restore") then restore_order_of first second
+    else None)
 
 -- the order that the words are, if they are one
 unfoldable pub order_of : List (List ℕ) → Option Order
-order_of (command ∷ dir ∷ pkg ∷ []) = if is_same_name command (codes "pack") then pack_order_of dir pkg else None
+order_of (command ∷ first ∷ second ∷ []) = command_order_of command first second
 order_of words = None

@@ -2,14 +2,15 @@
 use Rattle.std.specs.Prelude.{ℕ, List}
 use Rattle.std.specs.Fmt.{decimal}
 use Rattle.cook_top.specs.Orders.{Order}
-use Rattle.cook_top.specs.Orders.Order.{Pack}
+use Rattle.cook_top.specs.Orders.Order.{Pack, Restore}
 use Rattle.cook_top.specs.declared.words.Order.{Order as OrderRead}
-use Rattle.cook_top.specs.declared.words.Order.TheVariants.{Pack as PackRead}
+use Rattle.cook_top.specs.declared.words.Order.TheVariants.{Pack as PackRead, Restore as RestoreRead}
 use Rattle.cook_top.specs.declared.report.Piece.{Piece}
 use Rattle.cook_top.specs.declared.report.Piece.TheVariants.{Text, Number}
 
 abbrev pub order_shown : OrderRead → Order
 order_shown (PackRead dir pkg) = Pack dir.now pkg.now
+order_shown (RestoreRead pkg dir) = Restore pkg.now dir.now
 
 abbrev pub piece_bytes : Piece → List ℕ
 piece_bytes (Text text) = text.now

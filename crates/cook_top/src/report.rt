@@ -2,11 +2,12 @@ ghost use Rattle.std.specs.Prelude.{◌≡◌, ◌≤◌, OnOk, OnErr, map, code
 ghost use Rattle.std.specs.List.{flat_map};
 ghost use Rattle.shelf_core.specs.Causes.{Rose};
 ghost use Rattle.shelf_core.specs.Report.{with_text, WrittenPartly};
-ghost use Rattle.cook_top.specs.Texts.{reason_of, named_line, changed_line, line_of, pack_line};
+ghost use Rattle.cook_top.specs.Texts.{reason_of, file_reason_of, package_line, named_line, changed_line, line_of, pack_line, restore_line};
 ghost use Rattle.cook_top.specs.Shown.{piece_bytes};
 
 use crate::Status;
 use cook_pack::RefuseWhy;
+use cook_restore::{FileWhy, PackageWhy};
 use itoa::Buffer;
 use shelf_core::{Sink, SinkFailed};
 
@@ -17,7 +18,7 @@ const USAGE: &[u8] =
 #[derive(Clone, Copy, Debug)]
 enum Piece<'a> {
     Text(&'a str),
-    Number(u64),
+    Number(u128),
 }
 
 use Piece::{Number, Text};
@@ -68,6 +69,65 @@ fn reason(why: RefuseWhy) -> &'static str
     }
 }
 
+// What a line says of a file of a package.
+#[tactic(auto, unfolding(crate::specs::Texts::file_reason_of))]
+fn file_reason(why: FileWhy) -> &'static str
+    ensures { result.now ≡ file_reason_of why }
+{
+    match why {
+        FileWhy::Missing => "Missing",
+        FileWhy::Length => "Length",
+        FileWhy::Sum => "Sum",
+    }
+}
+
+// Writes the line on the first fault of a package.
+#[tactic(auto, unfolding(crate::specs::Texts::package_line))]
+fn write_fault<O: Sink>(out: &mut O, why: &PackageWhy) -> Result<(), SinkFailed>
+    ensures ok { OnOk result (O.written out.new ≡ with_text (O.written out.old) (package_line why.now)) }
+    ensures err { OnErr result (WrittenPartly (O.written out.old) (package_line why.now) (O.written out.new)) }
+    ensures kept { O.faults out.old ≤ O.faults out.new }
+    ensures cause { OnErr result (Rose (O.faults out.old) (O.faults out.new)) }
+{
+    match why {
+        PackageWhy::Shape { place } => write_pieces(
+            out,
+            &[
+                Text("cook: package: bad structure at byte "),
+                Number(*place as u128),
+                Text("\n"),
+            ],
+        ),
+        PackageWhy::NoSide => out.write(b"cook: package: no side data\n"),
+        PackageWhy::SideBad { place } => write_pieces(
+            out,
+            &[
+                Text("cook: package: bad side data at byte "),
+                Number(*place as u128),
+                Text("\n"),
+            ],
+        ),
+        PackageWhy::SideNames { name } => write_pieces(
+            out,
+            &[
+                Text("cook: package: bad side name "),
+                Text(name.as_str()),
+                Text("\n"),
+            ],
+        ),
+        PackageWhy::File { name, why } => write_pieces(
+            out,
+            &[
+                Text("cook: package: file "),
+                Text(name.as_str()),
+                Text(": "),
+                Text(file_reason(*why)),
+                Text("\n"),
+            ],
+        ),
+    }
+}
+
 // Writes a line on a name.
 #[tactic(auto, unfolding(crate::specs::Texts::named_line))]
 fn write_named<'t, O: Sink>(out: &mut O, name: &'t str, said: &'t str) -> Result<(), SinkFailed>
@@ -102,9 +162,9 @@ fn write_changed<O: Sink>(out: &mut O, name: &str, was: u64, now: u64) -> Result
             Text("cook: "),
             Text(name),
             Text(": changed from "),
-            Number(was),
+            Number(was as u128),
             Text(" to "),
-            Number(now),
+            Number(now as u128),
             Text(" bytes\n"),
         ],
     )
@@ -123,6 +183,7 @@ pub fn write_line<O: Sink>(out: &mut O, status: &Status) -> Result<(), SinkFaile
         Status::Done | Status::ReportFault => Ok(()),
         Status::Usage => out.write(USAGE),
         Status::Refused { name, why } => write_named(out, name.as_str(), reason(*why)),
+        Status::PackageRefused { why } => write_fault(out, why),
         Status::InTheWay { name } => write_named(out, name.as_str(), "in the way"),
         Status::ShelfFault => out.write(b"cook: shelf fault\n"),
         Status::NoMemory => out.write(b"cook: no memory\n"),
@@ -150,12 +211,32 @@ pub fn write_packed<O: Sink>(
         out,
         &[
             Text("packed "),
-            Number(files as u64),
+            Number(files as u128),
             Text(" files, "),
-            Number(tracks as u64),
+            Number(tracks as u128),
             Text(" tracks, "),
-            Number(blocks),
+            Number(blocks as u128),
             Text(" blocks, "),
+            Number(bytes as u128),
+            Text(" bytes\n"),
+        ],
+    )
+}
+
+/// Writes the report of restore: how many files were given, and how many bytes they have. It takes no memory.
+#[tactic(auto, unfolding(crate::specs::Texts::restore_line))]
+pub fn write_restored<O: Sink>(out: &mut O, files: u64, bytes: u128) -> Result<(), SinkFailed>
+    ensures ok { OnOk result (O.written out.new ≡ with_text (O.written out.old) (restore_line files bytes)) }
+    ensures err { OnErr result (WrittenPartly (O.written out.old) (restore_line files bytes) (O.written out.new)) }
+    ensures kept { O.faults out.old ≤ O.faults out.new }
+    ensures cause { OnErr result (Rose (O.faults out.old) (O.faults out.new)) }
+{
+    write_pieces(
+        out,
+        &[
+            Text("restored "),
+            Number(files as u128),
+            Text(" files, "),
             Number(bytes),
             Text(" bytes\n"),
         ],

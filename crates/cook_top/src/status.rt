@@ -3,6 +3,8 @@ ghost use Rattle.cook_top.specs.Statuses.{number_of};
 
 use cook_bits::Name;
 use cook_pack::{PackError, RefuseWhy};
+use cook_restore::{PackageWhy, RestoreError};
+use shelf_core::ShelfError;
 
 /// How a command ended.
 #[derive(Debug, Drop)]
@@ -13,6 +15,8 @@ pub enum Status {
     Usage,
     /// The directory's first offence.
     Refused { name: Name, why: RefuseWhy },
+    /// The package's first fault.
+    PackageRefused { why: PackageWhy },
     /// What was to be made is there already.
     InTheWay { name: Name },
     /// The shelf failed.
@@ -36,6 +40,7 @@ impl Status {
             Status::Done => 0,
             Status::Usage => 1,
             Status::Refused { .. } => 2,
+            Status::PackageRefused { .. } => 3,
             Status::InTheWay { .. } => 4,
             Status::ShelfFault => 5,
             Status::NoMemory => 6,
@@ -60,6 +65,37 @@ impl From<PackError> for Status {
             PackError::Missing { name } => Status::Missing { name },
             PackError::Failed => Status::ShelfFault,
             PackError::NoMemory => Status::NoMemory,
+        }
+    }
+}
+
+impl From<ShelfError> for Status {
+    ghost use Rattle.std.specs.Prelude.{◌≡◌};
+    ghost use Rattle.cook_top.specs.Statuses.{status_of_shelf_error};
+
+    ghost from_gives = { λ e result. result ≡ status_of_shelf_error e };
+
+    fn from(error: ShelfError) -> Self {
+        match error {
+            ShelfError::Failed => Status::ShelfFault,
+            ShelfError::NoMemory => Status::NoMemory,
+        }
+    }
+}
+
+impl From<RestoreError> for Status {
+    ghost use Rattle.std.specs.Prelude.{◌≡◌};
+    ghost use Rattle.cook_top.specs.Statuses.{status_of_restore_error};
+
+    ghost from_gives = { λ e result. result ≡ status_of_restore_error e };
+
+    fn from(error: RestoreError) -> Self {
+        match error {
+            RestoreError::Package(why) => Status::PackageRefused { why },
+            RestoreError::Missing { name } => Status::Missing { name },
+            RestoreError::Changed { name, was, now } => Status::Changed { name, was, now },
+            RestoreError::Failed => Status::ShelfFault,
+            RestoreError::NoMemory => Status::NoMemory,
         }
     }
 }

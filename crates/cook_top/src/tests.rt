@@ -1,11 +1,14 @@
 mod endings;
+mod folders;
 mod packages;
+mod restoring;
 mod untold;
 mod vectors;
 
-use crate::{Order, Status, Usage, cook, read_words, write_line, write_packed};
+use crate::{Order, Status, Usage, cook, read_words, write_line, write_packed, write_restored};
 use cook_bits::Name;
 use cook_pack::{PackError, RefuseWhy};
+use cook_restore::{FileWhy, PackageWhy, RestoreError};
 use shelf_core::{MemShelf, MemSink, Shelf, Sink, SinkFailed};
 use std::alloc::{AllocError, Global};
 use std::process::Abort;
@@ -84,10 +87,10 @@ fn hex(alloc: Global, text: &str) -> Result<Vec<u8>, AllocError> {
 #[test]
 fn words_are_an_order_or_not(rt: HostRuntime) -> Result<(), Fail> {
     let table = [
-        ("pack scans reel.mkv", Some(("scans", "reel.mkv"))),
-        ("pack scans/ reel.mkv", Some(("scans", "reel.mkv"))),
-        ("pack a/b// c/d", Some(("a/b", "c/d"))),
-        ("pack / p", Some(("", "p"))),
+        ("pack scans reel.mkv", Some(("pack", "scans", "reel.mkv"))),
+        ("pack scans/ reel.mkv", Some(("pack", "scans", "reel.mkv"))),
+        ("pack a/b// c/d", Some(("pack", "a/b", "c/d"))),
+        ("pack / p", Some(("pack", "", "p"))),
         ("pack a", None),
         ("pack a b/", None),
         ("pack a b c", None),
@@ -99,13 +102,31 @@ fn words_are_an_order_or_not(rt: HostRuntime) -> Result<(), Fail> {
         ("pack a\0 b", None),
         ("Pack a b", None),
         ("packs a b", None),
+        (
+            "restore reel.mkv scans",
+            Some(("restore", "reel.mkv", "scans")),
+        ),
+        ("restore c/d a/b//", Some(("restore", "c/d", "a/b"))),
+        ("restore p /", Some(("restore", "p", ""))),
+        ("restore p", None),
+        ("restore p/ d", None),
+        ("restore p d e", None),
+        ("restore -w 4 p d", None),
+        ("restore -p d", None),
+        ("restore p -d", None),
+        ("restore  d", None),
+        ("restore p ", None),
+        ("restore p\0 d", None),
+        ("Restore p d", None),
+        ("restores p d", None),
         ("--help", None),
         ("", None),
     ];
     for (line, wanted) in table {
         let words = words_of(rt.alloc(), line)?;
         let order = match read_words(words.as_slice()) {
-            Ok(Order::Pack { dir, pkg }) => Some((dir, pkg)),
+            Ok(Order::Pack { dir, pkg }) => Some(("pack", dir, pkg)),
+            Ok(Order::Restore { pkg, dir }) => Some(("restore", pkg, dir)),
             Err(Usage) => None,
         };
         assert_eq!(rt; order, wanted, "at {line:?}");
@@ -199,6 +220,59 @@ fn each_reason_has_its_text(rt: HostRuntime) -> Result<(), Fail> {
         let name = Name::copy(rt.alloc(), "a.dpx")?;
         let status = Status::from(PackError::Refused { name, why });
         ends(&rt, rt.alloc(), status, 2, line)?;
+    }
+    Ok(())
+}
+
+#[test]
+fn each_fault_of_a_package_has_its_line(rt: HostRuntime) -> Result<(), Fail> {
+    let name = Name::copy(rt.alloc(), "b//c")?;
+    let table = [
+        (
+            PackageWhy::Shape { place: u64::MAX },
+            "cook: package: bad structure at byte 18446744073709551615\n",
+        ),
+        (PackageWhy::NoSide, "cook: package: no side data\n"),
+        (
+            PackageWhy::SideBad { place: 12 },
+            "cook: package: bad side data at byte 12\n",
+        ),
+        (
+            PackageWhy::SideNames { name },
+            "cook: package: bad side name b//c\n",
+        ),
+    ];
+    for (why, line) in table {
+        let status = Status::from(RestoreError::Package(why));
+        ends(&rt, rt.alloc(), status, 3, line)?;
+    }
+    let table = [
+        (FileWhy::Missing, "cook: package: file a/b: Missing\n"),
+        (FileWhy::Length, "cook: package: file a/b: Length\n"),
+        (FileWhy::Sum, "cook: package: file a/b: Sum\n"),
+    ];
+    for (why, line) in table {
+        let name = Name::copy(rt.alloc(), "a/b")?;
+        let why = PackageWhy::File { name, why };
+        ends(&rt, rt.alloc(), Status::PackageRefused { why }, 3, line)?;
+    }
+    Ok(())
+}
+
+#[test]
+fn a_report_of_restore_has_its_numbers(rt: HostRuntime) -> Result<(), Fail> {
+    let table = [
+        (0, 0, "restored 0 files, 0 bytes\n"),
+        (
+            4294967295,
+            79228162495817593515539431425,
+            "restored 4294967295 files, 79228162495817593515539431425 bytes\n",
+        ),
+    ];
+    for (files, bytes, line) in table {
+        let mut out = sink(rt.alloc(), 10)?;
+        assert_eq!(rt; write_restored(&mut out, files, bytes), Ok(()));
+        assert_eq!(rt; out.bytes(), line.as_bytes());
     }
     Ok(())
 }

@@ -1,5 +1,5 @@
 ghost use Rattle.std.specs.Prelude.{◌≡◌, None, Some, map, string_bytes, IfOk, OnErr};
-ghost use Rattle.cook_top.specs.Orders.{is_name, begins_with_dash, ends_with_slash, without_end_slashes, pack_order_of, order_of};
+ghost use Rattle.cook_top.specs.Orders.{is_name, begins_with_dash, ends_with_slash, without_end_slashes, is_file_name, pack_order_of, restore_order_of, command_order_of, order_of};
 ghost use Rattle.cook_top.specs.Shown.{order_shown};
 
 use thiserror::Error;
@@ -12,6 +12,8 @@ const MOST_NAME_BYTES: usize = 4096;
 pub enum Order<'a> {
     /// Put the files under the root `dir`, which has lost its slashes at the end, into the package `pkg`.
     Pack { dir: &'a str, pkg: &'a str },
+    /// Give the files of the package `pkg` back under the root `dir`, which has lost its slashes at the end.
+    Restore { pkg: &'a str, dir: &'a str },
 }
 
 /// The words are no order.
@@ -43,6 +45,13 @@ fn is_name(word: &str) -> bool
         && !begins_with_dash(word)
 }
 
+// Whether the word is a name that no slash ends.
+fn is_file_name(word: &str) -> bool
+    ensures { result ≡ is_file_name word.now }
+{
+    is_name(word) && !ends_with_slash(word)
+}
+
 // The text without the slashes at its end.
 fn without_end_slashes(text: &str) -> &str
     ensures { result.now ≡ without_end_slashes text.now }
@@ -56,7 +65,7 @@ fn pack_order<'a>(dir: &'a str, pkg: &'a str) -> Result<Order<'a>, Usage>
     ensures order { IfOk result (λ order. pack_order_of dir.now pkg.now ≡ Some (order_shown order)) }
     ensures usage { OnErr result (pack_order_of dir.now pkg.now ≡ None) }
 {
-    if !is_name(dir) || !is_name(pkg) || ends_with_slash(pkg) {
+    if !is_name(dir) || !is_file_name(pkg) {
         return Err(Usage);
     }
     Ok(Order::Pack {
@@ -65,15 +74,45 @@ fn pack_order<'a>(dir: &'a str, pkg: &'a str) -> Result<Order<'a>, Usage>
     })
 }
 
-/// Reads the words of a command line. They are `pack`, DIR and PKG: two names of 1 to 4,096 bytes, with no byte zero and
-/// no dash at the start. DIR loses the slashes at its end, and PKG has none there. All other words are no order.
-/// It takes no memory.
+// The order to restore PKG into DIR.
+#[tactic(auto, unfolding(crate::specs::Orders::restore_order_of))]
+fn restore_order<'a>(pkg: &'a str, dir: &'a str) -> Result<Order<'a>, Usage>
+    ensures order { IfOk result (λ order. restore_order_of pkg.now dir.now ≡ Some (order_shown order)) }
+    ensures usage { OnErr result (restore_order_of pkg.now dir.now ≡ None) }
+{
+    if !is_file_name(pkg) || !is_name(dir) {
+        return Err(Usage);
+    }
+    Ok(Order::Restore {
+        pkg,
+        dir: without_end_slashes(dir),
+    })
+}
+
+// The order of a command and the two words behind it.
+#[tactic(auto, unfolding(crate::specs::Orders::command_order_of))]
+fn command_order<'a>(command: &str, first: &'a str, second: &'a str) -> Result<Order<'a>, Usage>
+    ensures order { IfOk result (λ order. command_order_of command.now first.now second.now ≡ Some (order_shown order)) }
+    ensures usage { OnErr result (command_order_of command.now first.now second.now ≡ None) }
+{
+    if command == "pack" {
+        return pack_order(first, second);
+    }
+    if command == "restore" {
+        return restore_order(first, second);
+    }
+    Err(Usage)
+}
+
+/// Reads the words of a command line. They are `pack`, DIR and PKG, or `restore`, PKG and DIR: two names of 1 to 4,096
+/// bytes, with no byte zero and no dash at the start. DIR loses the slashes at its end, and PKG has none there. All other
+/// words are no order. It takes no memory.
 pub fn read_words(words: &[String]) -> Result<Order<'_>, Usage>
     ensures order { IfOk result (λ order. order_of (map string_bytes words.now) ≡ Some (order_shown order)) }
     ensures usage { OnErr result (order_of (map string_bytes words.now) ≡ None) }
 {
-    if words.len() != 3 || words[0].as_str() != "pack" {
+    if words.len() != 3 {
         return Err(Usage);
     }
-    pack_order(words[1].as_str(), words[2].as_str())
+    command_order(words[0].as_str(), words[1].as_str(), words[2].as_str())
 }

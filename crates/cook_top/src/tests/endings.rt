@@ -8,7 +8,7 @@ use std::process::Abort;
 use std::test::Fail;
 
 // Cooks a line of words: it ends with the number, and the text is written.
-fn ends<S: Shelf>(
+pub fn ends<S: Shelf>(
     rt: &impl Abort,
     alloc: Global,
     shelf: &mut S,
@@ -26,7 +26,7 @@ fn ends<S: Shelf>(
 #[test]
 fn words_without_an_order_show_the_usage(rt: HostRuntime) -> Result<(), Fail> {
     let mut shelf = empty_shelf(rt.alloc());
-    for line in ["", "pack a", "pack d p/", "check p"] {
+    for line in ["", "pack a", "pack d p/", "restore p", "check p"] {
         let status = ends(&rt, rt.alloc(), &mut shelf, line, 1, USAGE)?;
         assert!(rt; matches!(status, Status::Usage));
     }

@@ -13,13 +13,13 @@ use std::test::Fail;
 
 // The bytes of a file: as listed, or so many that were made up, where each is `step` more than the one before, modulo 251.
 #[derive(Clone, Copy)]
-enum Content<'a> {
+pub enum Content<'a> {
     Listed(&'a [u8]),
     MadeUp { len: u32, step: u32 },
 }
 
-// A file of a directory: its full name and its bytes.
-type Made<'a> = (&'a str, Content<'a>);
+// A file: its name and its bytes.
+pub type Made<'a> = (&'a str, Content<'a>);
 
 fn made_up(alloc: Global, len: u32, step: u32) -> Result<Vec<u8>, AllocError> {
     let mut bytes = Vec::new(alloc);
@@ -30,22 +30,24 @@ fn made_up(alloc: Global, len: u32, step: u32) -> Result<Vec<u8>, AllocError> {
     Ok(bytes)
 }
 
-fn shelf_of(alloc: Global, files: &[Made<'_>]) -> Result<MemShelf, Fail> {
+pub fn bytes_of(alloc: Global, content: Content<'_>) -> Result<Vec<u8>, AllocError> {
+    match content {
+        Listed(bytes) => Vec::from_slice(alloc, bytes),
+        MadeUp { len, step } => made_up(alloc, len, step),
+    }
+}
+
+pub fn shelf_of(alloc: Global, files: &[Made<'_>]) -> Result<MemShelf, Fail> {
     let mut shelf = empty_shelf(alloc);
     for (name, content) in files {
-        match *content {
-            Listed(bytes) => add_file(&mut shelf, name, bytes)?,
-            MadeUp { len, step } => {
-                let bytes = made_up(alloc, len, step)?;
-                add_file(&mut shelf, name, bytes.as_slice())?;
-            }
-        }
+        let bytes = bytes_of(alloc, *content)?;
+        add_file(&mut shelf, name, bytes.as_slice())?;
     }
     Ok(shelf)
 }
 
-// Packs the files under `d`, and answers the package and what was reported.
-fn packed(rt: &impl Abort, alloc: Global, shelf: &mut MemShelf) -> Result<Vec<u8>, Fail> {
+// Packs the files under `d` into `p`, and answers the package.
+pub fn packed(rt: &impl Abort, alloc: Global, shelf: &mut MemShelf) -> Result<Vec<u8>, Fail> {
     let mut out = sink(alloc, 99)?;
     let files = shelf.files().len();
     let status = cook_line(alloc, "pack d p", shelf, &mut out)?;

@@ -1,5 +1,6 @@
-use Rattle.std.proofs.Common.{subst, sym, ◌∙◌}
+use Rattle.std.proofs.Common.{Some, subst, sym, ◌∙◌}
 use Rattle.cook_top.specs.Laws.{IsShown}
+use Rattle.cook_top.specs.Orders.Order.{Pack}
 use Rattle.cook_top.proofs.TopLaws.{reports-packed}
 use Rattle.cook_top.proofs.top.pack_order.Goals as goal
 
@@ -8,5 +9,5 @@ returns-in-Ok-clause-report g c = reports-packed _ _ _ _ _ _ _ _ _ _ c.report.en
 
 pub returns-in-Err-clause-shown : goal.returns-in-Err-clause-shown
 returns-in-Err-clause-shown g c =
-    subst (IsShown (g.S.Shelf.files c.args.shelf.now) (g.S.Shelf.faults c.args.shelf.now) (g.S.Shelf.faults c.pack_directory.new.shelf) (g.O.Sink.faults c.args.out.now) (g.O.Sink.faults c.refuse.new.out))
+    subst (IsShown (Some (Pack c.args.dir.now c.args.pkg.now)) (g.S.Shelf.files c.args.shelf.now) (g.S.Shelf.faults c.args.shelf.now) (g.S.Shelf.faults c.pack_directory.new.shelf) (g.O.Sink.faults c.args.out.now) (g.O.Sink.faults c.refuse.new.out))
     (sym (c.refuse.ensures.status ∙ c.from.ensures)) (c.in-Err.ensures.cause _ _)

@@ -1,0 +1,203 @@
+-- The attachments of a package, as a reader sees them.
+use Rattle.std.proofs.Common.{◌≡◌, ℕ, ◌+◌, ◌*◌, ◌^◌, ◌≤◌, false, true, List, [], ◌∷◌, ◌++◌, length, map, All, codes, Ok, refl, sym, ap, ◌∙◌, arith, append_assoc, append-nil, length-append}
+use Rattle.std.specs.List.{sum_by, AllByRecursion}
+use Rattle.std.proofs.lemmas.List.{length-map}
+use Rattle.std.proofs.lemmas.List.Elements.{All-map, All-from_recursion, recursion_from_All}
+use Rattle.std.proofs.lemmas.List.Sums.{sum_by-cons, sum_by-le}
+use Rattle.md5.proofs.StandardFacts.{length-md5}
+use Rattle.cook_bits.specs.Names.{File, IsRelativeName}
+use Rattle.ebml_core.specs.Element.{element}
+use Rattle.reversal.specs.SideData.{HasSum, names_of, side_data_len, side_data_of}
+use Rattle.reversal.proofs.Lengths.{length_is}
+use Rattle.cook_pack.specs.Pieces.{attached_file}
+use Rattle.cook_pack.specs.Package.{attached_from, attachments_of, record_of}
+use Rattle.cook_pack.proofs.PlannedLaws.{short_name}
+use Rattle.cook_restore.specs.declared.matroska_read.parts.Element.{Element}
+use Rattle.cook_restore.specs.declared.matroska_read.files.FileAt.{FileAt}
+use Rattle.cook_restore.specs.Walk.{walked, walked_children}
+use Rattle.cook_restore.specs.Outline.{visit_attachments}
+use Rattle.cook_restore.proofs.WalkLaws.{walked-end}
+use Rattle.cook_restore.proofs.SpelledWalk.{Stands, IsSpelled, spelled, stands-first, stands-second, content-stands, walked-file}
+use Rattle.cook_top.specs.RoundTrip.{file_names, IsAttached, AreAttached}
+use Rattle.cook_top.proofs.ProfileLaws.{Keeps}
+use Rattle.cook_top.proofs.AttachmentLaws.{attached_content, length-attached_content-le, length-attached_file-le, file_read-attached}
+
+-- ---- lengths
+
+content_len : File → ℕ
+content_len file = length file.1
+
+-- a file whose name and content are short enough for an attachment
+pub record IsSmall (file : File) : Type 0 where
+  pub name : length file.0 ≤ 1024
+  pub content : length file.1 ≤ 2 ^ 50
+
+are_small : (directory : List File) → AllByRecursion IsRelativeName (file_names directory) → sum_by content_len directory ≤ 2 ^ 50 → AllByRecursion IsSmall directory
+unfolding content_len
+are_small [] relative small = tt
+are_small (file ∷ files) relative small =
+    let adds : sum_by content_len (file ∷ files) ≡ length file.1 + sum_by content_len files = sum_by-cons content_len file files in
+    (record { name = short_name file.0 relative.0; content = omega arith }, are_small files relative.1 (omega arith))
+
+length-attached_from-le : (uid : ℕ) (directory : List File) → AllByRecursion IsSmall directory → length (attached_from uid directory) ≤ sum_by content_len directory + 1116 * length directory
+unfolding attached_from content_len
+length-attached_from-le uid [] small = omega arith
+length-attached_from-le uid (file ∷ files) small =
+    let adds : sum_by content_len (file ∷ files) ≡ length file.1 + sum_by content_len files = sum_by-cons content_len file files in
+    omega (arith, small.0.name, length-append (attached_file file.0 false uid file.1) (attached_from (uid + 1) files), length-attached_file-le file.0 false uid file.1, length-attached_from-le (uid + 1) files small.1)
+
+pub names-recorded : (directory : List File) → names_of (map record_of directory) ≡ file_names directory
+names-recorded [] = refl
+names-recorded (file ∷ files) = ap (λ rest. file.0 ∷ rest) (names-recorded files)
+
+named_len : List ℕ → ℕ
+named_len name = 27 + length name
+
+short_names : (names : List (List ℕ)) → AllByRecursion IsRelativeName names → AllByRecursion (λ name. named_len name ≤ 1051) names
+unfolding named_len
+short_names [] relative = tt
+short_names (name ∷ names) relative = ((let short = short_name name relative.0 in omega arith), short_names names relative.1)
+
+side_data_len-le : (names : List (List ℕ)) → AllByRecursion IsRelativeName names → side_data_len names ≤ 12 + length names * 1051
+unfolding side_data_len named_len
+side_data_len-le names relative =
+    let adds : sum_by named_len names ≤ length names * 1051 = sum_by-le named_len 1051 names (All-from_recursion (λ name. named_len name ≤ 1051) names (short_names names relative)) in
+    omega (arith, adds)
+
+pub length-side_data-le : (directory : List File) → All IsRelativeName (file_names directory) → length (side_data_of (map record_of directory)) ≤ 12 + length directory * 1051
+length-side_data-le directory relative =
+    let summed : All HasSum (map record_of directory) = All-map HasSum record_of directory (λ k d h. length-md5 _) in
+    let count : length (file_names directory) ≡ length directory = length-map directory (λ (file : File). file.0) in
+    let most = side_data_len-le (file_names directory) (recursion_from_All IsRelativeName _ relative) in
+    omega (arith, length_is (map record_of directory) summed, ap side_data_len (names-recorded directory))
+
+-- ---- the files
+
+record Seen (bytes : List ℕ) (end place behind : ℕ) (before : List FileAt) (directory : List File) : Type 0 where
+  files : List FileAt
+  walk : walked visit_attachments end before place bytes ≡ walked visit_attachments end (before ++ files) behind bytes
+  are : AreAttached bytes directory files
+
+-- a file, and the others behind it
+file_then : (bytes : List ℕ) (end place next behind last : ℕ) (before : List FileAt) (file : FileAt) (others : List FileAt) → walked visit_attachments end before place bytes ≡ walked visit_attachments end (before ++ file ∷ []) next bytes
+    → walked visit_attachments end (before ++ file ∷ []) next bytes ≡ walked visit_attachments end ((before ++ file ∷ []) ++ others) behind bytes → behind ≡ last
+    → walked visit_attachments end before place bytes ≡ walked visit_attachments end (before ++ file ∷ others) last bytes
+file_then bytes end place next behind last before file others first later ends =
+    first ∙ later ∙ (λ i. walked visit_attachments end (append_assoc before (file ∷ []) others i) (ends i) bytes)
+
+files_seen : (bytes : List ℕ) (end place uid : ℕ) (before : List FileAt) (directory : List File) (rest : List ℕ) → AllByRecursion IsSmall directory → Stands bytes place (attached_from uid directory) rest → place + length (attached_from uid directory) ≤ end
+    → Seen bytes end place (place + length (attached_from uid directory)) before directory
+unfolding attached_from attached_file AreAttached
+files_seen bytes end place uid before [] rest small stands within =
+    let none : place ≡ place + 0 = omega arith in
+    record { files = []; walk = (λ i. walked visit_attachments end (sym (append-nil before) i) (none i) bytes); are = tt }
+files_seen bytes end place uid before (file ∷ files) rest small stands within =
+    let here = attached_content file.0 false uid file.1 in
+    let piece = element 0x61A7 here in
+    let later = attached_from (uid + 1) files in
+    let whole : length (piece ++ later) ≡ length piece + length later = length-append piece later in
+    let short = small.0.name in
+    let content = small.0.content in
+    let most = length-attached_content-le file.0 false uid file.1 in
+    let is : IsSpelled bytes end place 0x61A7 here (later ++ rest) = record { known = refl; small = omega arith; stands = stands-first bytes place piece later rest stands; within = omega arith } in
+    let read = file_read-attached bytes end place file.0 false uid file.1 (later ++ rest) (omega arith) (omega arith) is in
+    let others = files_seen bytes end (place + length piece) (uid + 1) (before ++ read.file ∷ []) files rest small.1 (stands-second bytes place piece later rest stands) (omega arith) in
+    record {
+      files = read.file ∷ others.files;
+      walk = file_then bytes end place (place + length piece) _ _ before read.file others.files (walked-file bytes end place here (later ++ rest) before read.file is read.read) others.walk (omega arith);
+      are = (read.is, others.are);
+    }
+
+-- ---- all attachments
+
+-- what is seen of the content of the Attachments
+pub record AreSeen (bytes : List ℕ) (element : Element) (directory : List File) : Type 0 where
+  pub files : List FileAt
+  pub side : FileAt
+  pub walk : walked_children visit_attachments element [] bytes ≡ Ok (files ++ side ∷ [])
+  pub are_files : AreAttached bytes directory files
+  pub is_side : IsAttached bytes (codes "cook.rev") true (side_data_of (map record_of directory)) side
+
+side_content : List File → List ℕ
+side_content directory = attached_content (codes "cook.rev") true (length (map record_of directory) + 1) (side_data_of (map record_of directory))
+
+attachments-are : (directory : List File) → attachments_of directory ≡ attached_from 1 directory ++ element 0x61A7 (side_content directory)
+unfolding attachments_of attached_file side_content
+attachments-are directory = refl
+
+length-side_content-le : (directory : List File) → Keeps directory → length (side_content directory) ≤ 1051000100
+unfolding side_content
+length-side_content-le directory keeps =
+    let count : length (codes "cook.rev") ≡ 8 = refl in
+    omega (arith, keeps.few, length-side_data-le directory keeps.relative, length-attached_content-le (codes "cook.rev") true (length (map record_of directory) + 1) (side_data_of (map record_of directory)))
+
+pub small_files : (directory : List File) → Keeps directory → AllByRecursion IsSmall directory
+unfolding content_len
+small_files directory keeps = are_small directory (recursion_from_All IsRelativeName _ keeps.relative) keeps.small
+
+pub length-attachments-le : (directory : List File) → Keeps directory → length (attachments_of directory) ≤ 2 ^ 51
+unfolding attachments_of content_len
+length-attachments-le directory keeps =
+    let count : length (codes "cook.rev") ≡ 8 = refl in
+    omega (
+      arith,
+      keeps.few,
+      keeps.small,
+      length-attached_from-le 1 directory (small_files directory keeps),
+      length-side_data-le directory keeps.relative,
+      length-append (attached_from 1 directory) (attached_file (codes "cook.rev") true (length (map record_of directory) + 1) (side_data_of (map record_of directory))),
+      length-attached_file-le (codes "cook.rev") true (length (map record_of directory) + 1) (side_data_of (map record_of directory)),
+    )
+
+-- the side data, behind which the Attachments end
+record SideSeen (bytes : List ℕ) (end place : ℕ) (before : List FileAt) (directory : List File) : Type 0 where
+  side : FileAt
+  walk : walked visit_attachments end before place bytes ≡ Ok (before ++ side ∷ [])
+  is : IsAttached bytes (codes "cook.rev") true (side_data_of (map record_of directory)) side
+
+side_seen : (bytes : List ℕ) (end place : ℕ) (before : List FileAt) (directory : List File) (rest : List ℕ) → Keeps directory → Stands bytes place (element 0x61A7 (side_content directory)) rest → end ≡ place + length (element 0x61A7 (side_content directory))
+    → SideSeen bytes end place before directory
+unfolding side_content
+side_seen bytes end place before directory rest keeps stands is_end =
+    let count : length (codes "cook.rev") ≡ 8 = refl in
+    let short = length-side_content-le directory keeps in
+    let most = length-side_data-le directory keeps.relative in
+    let is : IsSpelled bytes end place 0x61A7 (side_content directory) rest = record { known = refl; small = omega arith; stands = stands; within = omega arith } in
+    let read = file_read-attached bytes end place (codes "cook.rev") true (length (map record_of directory) + 1) (side_data_of (map record_of directory)) rest (omega arith) (omega (arith, keeps.few)) is in
+    record {
+      side = read.file;
+      walk = walked-file bytes end place (side_content directory) rest before read.file is read.read
+          ∙ walked-end visit_attachments end (before ++ read.file ∷ []) (place + length (element 0x61A7 (side_content directory))) bytes (omega arith);
+      is = read.is;
+    }
+
+-- the files, and then the side data
+side_then : (bytes : List ℕ) (end start next : ℕ) (parent : Element) (middle last : List FileAt) → parent.start ≡ start → parent.end ≡ end → walked visit_attachments end [] start bytes ≡ walked visit_attachments end middle next bytes
+    → walked visit_attachments end middle next bytes ≡ Ok last → walked_children visit_attachments parent [] bytes ≡ Ok last
+side_then bytes end start next parent middle last starts ends first later = (λ i. walked visit_attachments (ends i) [] (starts i) bytes) ∙ first ∙ later
+
+content_seen : (bytes : List ℕ) (end start : ℕ) (directory : List File) (rest : List ℕ) (parent : Element) → parent.start ≡ start → parent.end ≡ end → Keeps directory
+    → Stands bytes start (attached_from 1 directory ++ element 0x61A7 (side_content directory)) rest → end ≡ start + length (attached_from 1 directory ++ element 0x61A7 (side_content directory)) → AreSeen bytes parent directory
+content_seen bytes end start directory rest parent starts ends keeps stands is_end =
+    let first = attached_from 1 directory in
+    let last = element 0x61A7 (side_content directory) in
+    let whole : length (first ++ last) ≡ length first + length last = length-append first last in
+    let files = files_seen bytes end start 1 [] directory (last ++ rest) (small_files directory keeps) (stands-first bytes start first last rest stands) (omega arith) in
+    let side = side_seen bytes end (start + length first) files.files directory rest keeps (stands-second bytes start first last rest stands) (omega arith) in
+    record {
+      files = files.files;
+      side = side.side;
+      walk = side_then bytes end start (start + length first) parent files.files (files.files ++ side.side ∷ []) starts ends files.walk side.walk;
+      are_files = files.are;
+      is_side = side.is;
+    }
+
+pub attachments_seen : (bytes : List ℕ) (end place : ℕ) (directory : List File) (rest : List ℕ) → Keeps directory → IsSpelled bytes end place 0x1941A469 (attachments_of directory) rest
+    → AreSeen bytes (spelled place 0x1941A469 (length (attachments_of directory))) directory
+attachments_seen bytes end place directory rest keeps is =
+    let seen = spelled place 0x1941A469 (length (attachments_of directory)) in
+    let stands = content-stands bytes end place 0x1941A469 (attachments_of directory) rest is in
+    let are = attachments-are directory in
+    content_seen bytes seen.end seen.start directory rest seen refl refl keeps
+    (record { here = stands.here ∙ ap (λ (l : List ℕ). l ++ rest) are })
+    (ap (λ (l : List ℕ). seen.start + length l) are)

@@ -1,0 +1,112 @@
+-- A package, as a reader sees it.
+use Rattle.std.proofs.Common.{◌≡◌, ℕ, ◌+◌, ◌≤◌, List, [], ◌∷◌, ◌++◌, length, Option, None, Some, Ok, refl, sym, ap, ◌∙◌, arith, append_assoc, append-nil, length-append}
+use Rattle.cook_bits.specs.Names.{File}
+use Rattle.ebml_core.specs.Element.{element, uint_bytes, byte_count, least_from}
+use Rattle.cook_pack.specs.Offence.{IsInProfile}
+use Rattle.cook_pack.specs.Pieces.{ebml_content, info_content, unknown_size, header_bytes}
+use Rattle.cook_pack.specs.Package.{attachments_of, package_bytes, package_of}
+use Rattle.cook_pack.proofs.PieceLaws.{short_info}
+use Rattle.cook_restore.specs.declared.matroska_read.parts.Element.{Element}
+use Rattle.cook_restore.specs.declared.matroska_read.files.FileAt.{FileAt}
+use Rattle.cook_restore.specs.Walk.{walked}
+use Rattle.cook_restore.specs.Outline.{visit_segment}
+use Rattle.cook_restore.proofs.WalkLaws.{walked-end}
+use Rattle.cook_restore.proofs.SpelledWalk.{Stands, IsSpelled, spelled, behind, segment_in-unknown, walked-spelled, visit_segment-attachments, outline_of-read}
+use Rattle.cook_top.specs.RoundTrip.{ShowsDirectory}
+use Rattle.cook_top.proofs.ProfileLaws.{Keeps, keeps}
+use Rattle.cook_top.proofs.AttachmentsLaws.{AreSeen, attachments_seen, length-attachments-le}
+use Rattle.cook_top.proofs.HeaderRead.{header_seen, segment_head}
+
+-- the head of the Segment
+abbrev segment_piece : List ℕ
+segment_piece = uint_bytes 0x18538067 ++ unknown_size
+
+length-segment_piece : length segment_piece ≡ 12
+unfolding uint_bytes byte_count least_from
+length-segment_piece = refl
+
+-- Info is passed over
+info_passed : (bytes : List ℕ) (place len : ℕ) → visit_segment None (spelled place 0x1549A966 len) bytes ≡ Ok None
+unfolding visit_segment
+info_passed bytes place len = refl
+
+-- what a package is made of
+package-is : (directory : List File) → package_bytes directory ≡ element 0x1A45DFA3 ebml_content ++ (segment_piece ++ (element 0x1549A966 info_content ++ element 0x1941A469 (attachments_of directory)))
+unfolding package_bytes header_bytes
+package-is directory =
+    append_assoc (element 0x1A45DFA3 ebml_content ++ segment_piece) (element 0x1549A966 info_content) (element 0x1941A469 (attachments_of directory))
+    ∙ append_assoc (element 0x1A45DFA3 ebml_content) segment_piece (element 0x1549A966 info_content ++ element 0x1941A469 (attachments_of directory))
+
+-- the places of its parts
+record HasParts (bytes : List ℕ) (directory : List File) : Type 0 where
+  segment : ℕ
+  info : ℕ
+  attachments : ℕ
+  info_is : info ≡ segment + 12
+  attachments_is : attachments ≡ info + length (element 0x1549A966 info_content)
+  end_is : length bytes ≡ attachments + length (element 0x1941A469 (attachments_of directory))
+  begins : bytes ≡ element 0x1A45DFA3 ebml_content ++ (segment_piece ++ (element 0x1549A966 info_content ++ element 0x1941A469 (attachments_of directory)))
+  header : segment ≡ length (element 0x1A45DFA3 ebml_content)
+  segment_stands : Stands bytes segment segment_piece (element 0x1549A966 info_content ++ element 0x1941A469 (attachments_of directory))
+  info_stands : Stands bytes info (element 0x1549A966 info_content) (element 0x1941A469 (attachments_of directory))
+  attachments_stand : Stands bytes attachments (element 0x1941A469 (attachments_of directory)) []
+
+has_parts : (bytes : List ℕ) (directory : List File) → bytes ≡ package_bytes directory → HasParts bytes directory
+has_parts bytes directory is =
+    let first = element 0x1A45DFA3 ebml_content in
+    let info = element 0x1549A966 info_content in
+    let last = element 0x1941A469 (attachments_of directory) in
+    let begins = is ∙ package-is directory in
+    let at_start : Stands bytes 0 first (segment_piece ++ (info ++ last)) = record { here = begins } in
+    let second : Stands bytes (0 + length first) segment_piece (info ++ last) = record { here = behind bytes 0 first (segment_piece ++ (info ++ last)) at_start } in
+    let third : Stands bytes (0 + length first + length segment_piece) info last = record { here = behind bytes (0 + length first) segment_piece (info ++ last) second } in
+    let fourth : Stands bytes (0 + length first + length segment_piece + length info) last [] =
+    record { here = behind bytes (0 + length first + length segment_piece) info last third ∙ sym (append-nil last) } in
+    record {
+      segment = 0 + length first;
+      info = 0 + length first + length segment_piece;
+      attachments = 0 + length first + length segment_piece + length info;
+      info_is = omega (arith, length-segment_piece);
+      attachments_is = refl;
+      end_is = omega (arith, ap length begins, length-append first (segment_piece ++ (info ++ last)), length-append segment_piece (info ++ last), length-append info last);
+      begins = begins;
+      header = omega arith;
+      segment_stands = second;
+      info_stands = third;
+      attachments_stand = fourth;
+    }
+
+-- the Segment is walked over: Info, and then the Attachments, behind which the file ends
+segment_walked : (bytes : List ℕ) (directory : List File) (parts : HasParts bytes directory) → Keeps directory → (are : AreSeen bytes (spelled parts.attachments 0x1941A469 (length (attachments_of directory))) directory)
+    → walked visit_segment (length bytes) None parts.info bytes ≡ Ok (Some (are.files ++ are.side ∷ []))
+segment_walked bytes directory parts keeps are =
+    let info : IsSpelled bytes (length bytes) parts.info 0x1549A966 info_content (element 0x1941A469 (attachments_of directory)) =
+    record { known = refl; small = short_info; stands = parts.info_stands; within = omega (arith, parts.attachments_is, parts.end_is) } in
+    let attached : IsSpelled bytes (length bytes) parts.attachments 0x1941A469 (attachments_of directory) [] =
+    record { known = refl; small = omega (arith, length-attachments-le directory keeps); stands = parts.attachments_stand; within = omega (arith, parts.end_is) } in
+    let found : Option (List FileAt) = Some (are.files ++ are.side ∷ []) in
+    walked-spelled visit_segment bytes (length bytes) parts.info 0x1549A966 info_content _ None None info (info_passed bytes parts.info (length info_content))
+    ∙ ap (λ (n : ℕ). walked visit_segment (length bytes) None n bytes) (sym parts.attachments_is)
+    ∙ walked-spelled visit_segment bytes (length bytes) parts.attachments 0x1941A469 (attachments_of directory) [] None found attached (visit_segment-attachments bytes parts.attachments (length (attachments_of directory)) _ are.walk)
+    ∙ walked-end visit_segment (length bytes) found (parts.attachments + length (element 0x1941A469 (attachments_of directory))) bytes (omega (arith, parts.end_is))
+
+outline_seen : (bytes : List ℕ) (directory : List File) (parts : HasParts bytes directory) → Keeps directory → AreSeen bytes (spelled parts.attachments 0x1941A469 (length (attachments_of directory))) directory → ShowsDirectory directory bytes
+outline_seen bytes directory parts keeps are =
+    let element_at : Element = record { place = parts.segment; id = 0x18538067; start = parts.segment + 12; end = length bytes } in
+    let walk = ap (λ (n : ℕ). walked visit_segment (length bytes) None n bytes) (sym parts.info_is) ∙ segment_walked bytes directory parts keeps are in
+    record {
+      files = are.files;
+      side = are.side;
+      outline = outline_of-read bytes parts.segment element_at (are.files ++ are.side ∷ []) (header_seen bytes _ parts.begins ∙ ap Ok (sym parts.header))
+          (segment_in-unknown bytes (length bytes) parts.segment 12 segment_piece _ segment_head parts.segment_stands (omega (arith, parts.info_is, parts.attachments_is, parts.end_is, length-segment_piece))) refl walk;
+      are_files = are.are_files;
+      is_side = are.is_side;
+    }
+
+pub package_shows : (directory : List File) (rate : ℕ) → IsInProfile directory → 1 ≤ rate → rate ≤ 240 → ShowsDirectory directory (package_of directory rate)
+package_shows directory rate profile low high =
+    let kept = keeps directory profile in
+    let parts = has_parts (package_bytes directory) directory refl in
+    let attached : IsSpelled (package_bytes directory) (length (package_bytes directory)) parts.attachments 0x1941A469 (attachments_of directory) [] =
+    record { known = refl; small = omega (arith, length-attachments-le directory kept); stands = parts.attachments_stand; within = omega (arith, parts.end_is) } in
+    outline_seen (package_bytes directory) directory parts kept (attachments_seen (package_bytes directory) (length (package_bytes directory)) parts.attachments directory [] kept attached)

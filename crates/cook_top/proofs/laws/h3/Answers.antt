@@ -1,0 +1,5 @@
+use Rattle.cook_top.proofs.RoundTripLaws.{package_means}
+use Rattle.cook_top.proofs.laws.h3.Goals as goal
+
+pub returns : goal.returns
+returns c = package_means

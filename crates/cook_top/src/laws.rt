@@ -1,0 +1,14 @@
+//! What holds of the definitions of packages, whatever the directory.
+
+ghost use Rattle.cook_top.specs.RoundTrip.{PackageMeansDirectory, PackageShowsDirectory};
+
+/// The outline of the package of a directory in the profile has its files as attachments in their order, each with its name and its
+/// content, and the side data of their records behind them.
+pub fn n10()
+    ensures { PackageShowsDirectory }
+{}
+
+/// The package of a directory in the profile means all of its files, byte for byte, and no fault.
+pub fn h3()
+    ensures { PackageMeansDirectory }
+{}

@@ -1,0 +1,153 @@
+// Restoring: the files of a package, given back one by one into an empty target.
+ghost use Rattle.std.specs.Prelude.{◌≡◌, ◌≤◌, ◌<◌, ◌+◌, ◌*◌, ◌^◌, ℕ, [], length, IfOk, IfErr, OnOk, None, Some};
+ghost use Rattle.shelf_core.specs.Told.{IsTold, under};
+ghost use Rattle.cook_top.specs.Laws.{KeepsUnsealed, IsShown};
+ghost use Rattle.cook_top.specs.Orders.Order.{Restore as OrderRestore};
+ghost use Rattle.cook_top.specs.RestoreLaw.{RestoreLaw, IsRestored, meant};
+ghost use Rattle.cook_top.specs.Restoring.{FirstName, IsFirstPlace, IsNoTarget, IsNumbered, IsStatusOf, IsSumOf, IsUndone};
+
+use crate::Status;
+use cook_bits::{Name, NoMemory};
+use cook_restore::{FileError, PackageWhy, Restorer, open_package};
+use shelf_core::{Entry, Shelf};
+use std::alloc::Global;
+
+/// How many workers decode frames.
+const WORKERS: u32 = 4;
+
+/// What was restored: how many files, and how many bytes they have.
+#[derive(Clone, Copy, Debug, PartialEq, Eq)]
+pub struct RestoreSum {
+    pub files: u64,
+    pub bytes: u128,
+}
+
+// The place of the first entry in byte order of names.
+fn first_place(entries: &[Entry]) -> usize
+    requires { 0 < length entries.now }
+    ensures { IsFirstPlace entries.now result }
+{
+    let mut first = 0;
+    for index in 1..entries.len() {
+        if entries[index].name < entries[first].name {
+            first = index;
+        }
+    }
+    first
+}
+
+// The first name of entries in byte order.
+fn first_name(mut entries: Vec<Entry>) -> Option<Name>
+    ensures { FirstName entries.items result }
+{
+    if entries.is_empty() {
+        return None;
+    }
+    let first = first_place(entries.as_slice());
+    let Entry { name, .. } = entries.swap_remove(first);
+    Some(name)
+}
+
+// Makes the target, in which nothing may stand.
+fn make_target<S: Shelf>(shelf: &mut S, dir: &str) -> Result<(), Status>
+    ensures empty { OnOk result (under (S.files shelf.old) dir.now ≡ []) }
+    ensures stopped { IfErr result (IsNoTarget (S.files shelf.old) dir.now (S.faults shelf.old) (S.faults shelf.new)) }
+    ensures files { S.files shelf.new ≡ S.files shelf.old }
+    ensures unsealed { S.unsealed shelf.new ≡ S.unsealed shelf.old }
+    ensures kept { S.faults shelf.old ≤ S.faults shelf.new }
+{
+    shelf.make_folder(dir)?;
+    let entries = shelf.list(dir)?;
+    match first_name(entries) {
+        None => Ok(()),
+        Some(name) => Err(Status::InTheWay { name }),
+    }
+}
+
+// The status that shows why a file was not given.
+fn not_given(alloc: Global, restorer: Restorer, pkg: &str, error: FileError) -> Status
+    requires numbered { IsNumbered restorer error }
+    ensures { IsStatusOf restorer pkg.now error result }
+{
+    match error {
+        FileError::File { number, why } => {
+            let name = restorer.into_name(number);
+            Status::PackageRefused {
+                why: PackageWhy::File { name, why },
+            }
+        }
+        FileError::InTheWay { number } => {
+            let name = restorer.into_name(number);
+            Status::InTheWay { name }
+        }
+        FileError::Changed { was, now } => match Name::copy(alloc, pkg) {
+            Ok(name) => Status::Changed { name, was, now },
+            Err(NoMemory) => Status::NoMemory,
+        },
+        FileError::Failed => Status::ShelfFault,
+        FileError::NoMemory => Status::NoMemory,
+    }
+}
+
+// The sum with one file more. Fewer than 2^32 files of fewer than 2^64 bytes add up to no more than fits.
+fn with_one_more(sum: RestoreSum, length: u64) -> RestoreSum
+    requires few { sum.files < 2 ^ 32 }
+    requires small { sum.bytes ≤ sum.files * 2 ^ 64 }
+    ensures files { result.files ≡ sum.files + 1 }
+    ensures bytes { result.bytes ≡ sum.bytes + length }
+    ensures small { result.bytes ≤ result.files * 2 ^ 64 }
+{
+    RestoreSum {
+        files: sum.files + 1,
+        bytes: sum.bytes + u128::from(length),
+    }
+}
+
+// Gives the files of a package into a target that is empty, up to the first that is not given.
+fn restore_files<S: Shelf>(
+    alloc: Global,
+    shelf: &mut S,
+    pkg: &str,
+    dir: &str,
+) -> Result<RestoreSum, Status>
+    requires empty { under (S.files shelf.old) dir.now ≡ [] }
+    ensures done { IfOk result (λ _. IsRestored (S.files shelf.old) (S.files shelf.new) pkg.now dir.now None) }
+    ensures sum { IfOk result (λ sum. IsTold (S.files shelf.old) → IsSumOf (meant (S.files shelf.old) pkg.now).files sum) }
+    ensures stopped { IfErr result (RestoreLaw (S.files shelf.old) (S.files shelf.new) pkg.now dir.now) }
+    ensures undone { IfErr result IsUndone }
+    ensures sealed { IfOk result (λ _. S.unsealed shelf.new ≡ S.unsealed shelf.old) }
+    ensures unsealed { IfErr result (KeepsUnsealed (S.unsealed shelf.old) (S.unsealed shelf.new)) }
+    ensures cause { (sink sink_now : ℕ) → IfErr result (IsShown (Some (OrderRestore pkg.now dir.now)) (S.files shelf.old) (S.faults shelf.old) (S.faults shelf.new) sink sink_now) }
+    ensures kept { S.faults shelf.old ≤ S.faults shelf.new }
+{
+    let mut restorer = open_package(alloc, shelf, pkg, Some(dir), WORKERS)?;
+    let mut sum = RestoreSum { files: 0, bytes: 0 };
+    loop {
+        match restorer.next_file(alloc, shelf) {
+            Ok(Some(file)) => sum = with_one_more(sum, file.length),
+            Ok(None) => return Ok(sum),
+            Err(error) => return Err(not_given(alloc, restorer, pkg, error)),
+        }
+    }
+}
+
+/// Restores the package into the folder `dir`, which is made, and in which nothing may stand. The folder stays, whatever
+/// follows.
+pub fn restore_package<S: Shelf>(
+    alloc: Global,
+    shelf: &mut S,
+    pkg: &str,
+    dir: &str,
+) -> Result<RestoreSum, Status>
+    ensures done { IfOk result (λ _. IsRestored (S.files shelf.old) (S.files shelf.new) pkg.now dir.now None) }
+    ensures sum { IfOk result (λ sum. IsTold (S.files shelf.old) → IsSumOf (meant (S.files shelf.old) pkg.now).files sum) }
+    ensures stopped { IfErr result (RestoreLaw (S.files shelf.old) (S.files shelf.new) pkg.now dir.now) }
+    ensures undone { IfErr result IsUndone }
+    ensures sealed { IfOk result (λ _. S.unsealed shelf.new ≡ S.unsealed shelf.old) }
+    ensures unsealed { IfErr result (KeepsUnsealed (S.unsealed shelf.old) (S.unsealed shelf.new)) }
+    ensures cause { (sink sink_now : ℕ) → IfErr result (IsShown (Some (OrderRestore pkg.now dir.now)) (S.files shelf.old) (S.faults shelf.old) (S.faults shelf.new) sink sink_now) }
+    ensures kept { S.faults shelf.old ≤ S.faults shelf.new }
+{
+    make_target(shelf, dir)?;
+    restore_files(alloc, shelf, pkg, dir)
+}

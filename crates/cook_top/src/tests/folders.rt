@@ -1,0 +1,262 @@
+ghost use Rattle.std.specs.Prelude.{◌≡◌, ◌≤◌, length};
+ghost use Rattle.shelf_core.specs.Causes.{Rose};
+
+use super::endings::ends;
+use super::packages::Content::Listed;
+use super::packages::{Made, packed, shelf_of};
+use super::restoring::place_in;
+use crate::Status;
+use cook_bits::{Name, NoMemory};
+use shelf_core::{CreateError, Entry, Shelf, ShelfError};
+use std::alloc::Global;
+use std::test::Fail;
+
+// A file that is held.
+#[derive(Drop)]
+struct Held {
+    name: Name,
+    bytes: Vec<u8>,
+}
+
+// A shelf that tells nothing. It makes a file only in a folder that was made, and notes the folders in the order in which
+// they were made. The second reading from the place `fickle` gives another first byte.
+#[derive(Drop)]
+struct Foldered {
+    alloc: Global,
+    files: Vec<Held>,
+    folders: Vec<Name>,
+    fickle: Option<u64>,
+    readings: u32,
+    faults: u64,
+}
+
+// Whether the file stands in the folder and in none below it.
+fn stands_in(name: &str, folder: &str) -> bool {
+    let rest = name
+        .strip_prefix(folder)
+        .and_then(|rest| rest.strip_prefix("/"));
+    rest.is_some_and(|rest| !rest.contains('/'))
+}
+
+// Reads from a place on as many bytes as there are and as there is room for.
+fn read_from(bytes: &[u8], at: u64, buf: &mut [u8]) -> usize
+    ensures within { result ≤ length buf.old }
+{
+    if at >= bytes.len() as u64 {
+        return 0;
+    }
+    let rest = &bytes[at as usize..];
+    let count = rest.len().min(buf.len());
+    buf[..count].copy_from_slice(&rest[..count]);
+    count
+}
+
+impl Foldered {
+    // The count of faults rises.
+    fn fail(&mut self) -> ShelfError
+        ensures answer { result ≡ ShelfError.Failed }
+        ensures rose { Rose self.old.faults self.new.faults }
+        ensures kept { self.old.faults ≤ self.new.faults }
+    {
+        self.faults = self.faults.saturating_add(1);
+        ShelfError::Failed
+    }
+
+    // Holds a file.
+    fn hold(&mut self, name: &str, bytes: &[u8]) -> Result<(), NoMemory>
+        ensures { self.new.faults ≡ self.old.faults }
+    {
+        let name = Name::copy(self.alloc, name)?;
+        let bytes = Vec::from_slice(self.alloc, bytes)?;
+        self.files.push(Held { name, bytes })?;
+        Ok(())
+    }
+
+    // Adds bytes at the end of a file that is held.
+    fn add(&mut self, name: &str, bytes: &[u8]) -> Result<(), NoMemory>
+        ensures { self.new.faults ≡ self.old.faults }
+    {
+        for file in self.files.iter_mut() {
+            if file.name.as_str() == name {
+                file.bytes.extend_from_slice(bytes)?;
+            }
+        }
+        Ok(())
+    }
+
+    // Notes a folder.
+    fn note(&mut self, name: &str) -> Result<(), NoMemory>
+        ensures { self.new.faults ≡ self.old.faults }
+    {
+        let name = Name::copy(self.alloc, name)?;
+        self.folders.push(name)?;
+        Ok(())
+    }
+
+    // What stands under a root.
+    fn under(&self, root: &str) -> Result<Vec<Entry>, NoMemory> {
+        let mut entries = Vec::new(self.alloc);
+        for file in self.files.as_slice() {
+            let rest = file.name.as_str().strip_prefix(root);
+            if let Some(name) = rest.and_then(|rest| rest.strip_prefix("/")) {
+                let name = Name::copy(self.alloc, name)?;
+                entries.push(Entry { name, plain: true })?;
+            }
+        }
+        Ok(entries)
+    }
+
+    // The bytes of a file.
+    fn bytes_of(&self, name: &str) -> Option<&[u8]> {
+        for file in self.files.as_slice() {
+            if file.name.as_str() == name {
+                return Some(file.bytes.as_slice());
+            }
+        }
+        None
+    }
+
+    // Whether a reading from the place gives another byte.
+    fn turns(&mut self, at: u64) -> bool
+        ensures { self.new.faults ≡ self.old.faults }
+    {
+        if self.fickle != Some(at) {
+            return false;
+        }
+        self.readings = self.readings.saturating_add(1);
+        self.readings == 2
+    }
+}
+
+#[tactic(auto, unfolding(shelf_core::specs::Told::IsTold, shelf_core::specs::Told::IsFree, shelf_core::specs::Told::IsAtRest, shelf_core::specs::Told::with_file, shelf_core::specs::Told::with_pending, shelf_core::specs::Told::without_pending))]
+impl Shelf for Foldered {
+    ghost use Rattle.std.specs.Prelude.{None};
+    ghost use Rattle.std.proofs.Common.{refl};
+    ghost use Rattle.cook_pack.specs.Untold.{has_file};
+
+    ghost files = { λ shelf. None };
+
+    ghost unsealed = { λ shelf. None };
+
+    ghost faults = { λ shelf. shelf.faults };
+
+    ghost starved = { λ shelf. 0 };
+
+    ghost told_together = { λ shelf. refl };
+
+    ghost pending_is_there = { λ shelf name told pending. has_file name };
+
+    fn list(&mut self, root: &str) -> Result<Vec<Entry>, ShelfError> {
+        match self.under(root) {
+            Ok(entries) => Ok(entries),
+            Err(NoMemory) => Err(self.fail()),
+        }
+    }
+
+    fn len(&mut self, name: &str) -> Result<Option<u64>, ShelfError> {
+        Ok(self.bytes_of(name).map(|bytes| bytes.len() as u64))
+    }
+
+    fn read_at(&mut self, name: &str, at: u64, buf: &mut [u8]) -> Result<usize, ShelfError> {
+        let turns = self.turns(at);
+        let count = match self.bytes_of(name) {
+            Some(bytes) => read_from(bytes, at, buf),
+            None => 0,
+        };
+        if let Some(byte) = buf.first_mut() {
+            if turns {
+                *byte ^= 1;
+            }
+        }
+        Ok(count)
+    }
+
+    fn create(&mut self, name: &str) -> Result<(), CreateError> {
+        for folder in self.folders.as_slice() {
+            if stands_in(name, folder.as_str()) {
+                return match self.hold(name, &[]) {
+                    Ok(()) => Ok(()),
+                    Err(NoMemory) => {
+                        self.fail();
+                        Err(CreateError::Failed)
+                    }
+                };
+            }
+        }
+        self.fail();
+        Err(CreateError::Failed)
+    }
+
+    fn make_folder(&mut self, name: &str) -> Result<(), ShelfError> {
+        match self.note(name) {
+            Ok(()) => Ok(()),
+            Err(NoMemory) => Err(self.fail()),
+        }
+    }
+
+    fn append(&mut self, name: &str, bytes: &[u8]) -> Result<(), ShelfError> {
+        match self.add(name, bytes) {
+            Ok(()) => Ok(()),
+            Err(NoMemory) => Err(self.fail()),
+        }
+    }
+
+    fn seal(&mut self, _name: &str) -> Result<(), ShelfError> {
+        Ok(())
+    }
+}
+
+// A shelf that has a package alone, as `p`.
+fn shelf_with(alloc: Global, package: &[u8], fickle: Option<u64>) -> Result<Foldered, NoMemory> {
+    let mut shelf = Foldered {
+        alloc,
+        files: Vec::new(alloc),
+        folders: Vec::new(alloc),
+        fickle,
+        readings: 0,
+        faults: 0,
+    };
+    shelf.hold("p", package)?;
+    Ok(shelf)
+}
+
+const DEEP: [Made<'static>; 3] = [
+    ("d/a/b/c", Listed(b"first")),
+    ("d/a/b/d", Listed(b"second")),
+    ("d/a/e", Listed(b"third")),
+];
+
+// Each folder is made once, and those above it before it.
+#[test]
+fn folders_are_made_before_what_stands_in_them(rt: HostRuntime) -> Result<(), Fail> {
+    let mut shelf = shelf_of(rt.alloc(), &DEEP)?;
+    let package = packed(&rt, rt.alloc(), &mut shelf)?;
+    let mut shelf = shelf_with(rt.alloc(), package.as_slice(), None)?;
+    let report = "restored 3 files, 16 bytes\n";
+    let status = ends(&rt, rt.alloc(), &mut shelf, "restore p t", 0, report)?;
+    assert!(rt; matches!(status, Status::Done));
+    assert_eq!(rt; shelf.files.len(), 4);
+    assert_eq!(rt; shelf.bytes_of("t/a/b/c"), Some(b"first".as_slice()));
+    assert_eq!(rt; shelf.bytes_of("t/a/b/d"), Some(b"second".as_slice()));
+    assert_eq!(rt; shelf.bytes_of("t/a/e"), Some(b"third".as_slice()));
+    let wanted = ["t", "t/a", "t/a/b"];
+    assert_eq!(rt; shelf.folders.len(), wanted.len());
+    for (folder, name) in shelf.folders.as_slice().iter().zip(&wanted) {
+        assert_eq!(rt; folder.as_str(), *name);
+    }
+    Ok(())
+}
+
+#[test]
+fn another_second_reading_is_a_fault_of_the_file(rt: HostRuntime) -> Result<(), Fail> {
+    let mut shelf = shelf_of(rt.alloc(), &DEEP)?;
+    let package = packed(&rt, rt.alloc(), &mut shelf)?;
+    let place = place_in(package.as_slice(), b"second").ok_or("a content")?;
+    let mut shelf = shelf_with(rt.alloc(), package.as_slice(), Some(place as u64))?;
+    let line = "cook: package: file a/b/d: Sum\n";
+    let status = ends(&rt, rt.alloc(), &mut shelf, "restore p t", 3, line)?;
+    assert!(rt; matches!(status, Status::PackageRefused { .. }));
+    assert_eq!(rt; shelf.files.len(), 3);
+    assert_eq!(rt; shelf.bytes_of("t/a/b/c"), Some(b"first".as_slice()));
+    Ok(())
+}
