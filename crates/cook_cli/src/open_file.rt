@@ -114,18 +114,28 @@ pub(crate) fn append(
     done
 }
 
-/// Waits until the disk holds a file whole, and closes it.
+/// Whether a sealed file is on the disk, or left to the system to write.
+#[derive(Clone, Copy, Debug, PartialEq, Eq)]
+pub(crate) enum Sealing {
+    OnDisk,
+    LeftToSystem,
+}
+
+/// Closes a file. Where it is to be on the disk, it waits until the disk holds the file whole.
 pub(crate) fn seal(
     system: &HostRuntime,
     slot: &mut Option<OpenFile>,
     name: &str,
+    sealing: Sealing,
 ) -> io::Result<()> {
     let open = match slot.take().filter(|open| open.is_named(name)) {
         Some(open) => open,
         None => OpenFile::for_appending(system, name)?,
     };
-    open.file.sync_all()?;
-    sync_folder(system, name);
+    if sealing == Sealing::OnDisk {
+        open.file.sync_all()?;
+        sync_folder(system, name);
+    }
     Ok(())
 }
 

@@ -1,7 +1,7 @@
 ghost use Rattle.std.specs.Prelude.{◌≡◌, ◌≤◌, IfOk};
 ghost use Rattle.shelf_core.specs.Causes.{HasCause, Rose};
 
-use crate::open_file::{self, OpenFile};
+use crate::open_file::{self, OpenFile, Sealing};
 use crate::walk;
 use shelf_core::{CreateError, Entry, Shelf, ShelfError};
 use std::fs;
@@ -13,13 +13,14 @@ pub struct RealShelf {
     system: HostRuntime,
     reading: Option<OpenFile>,
     writing: Option<OpenFile>,
+    sealing: Sealing,
     faults: u64,
     starved: u64,
 }
 
 impl RealShelf {
     /// The files of the system, before any call failed.
-    pub fn new(system: HostRuntime) -> RealShelf
+    pub fn new(system: HostRuntime, sealing: Sealing) -> RealShelf
         ensures faults { result.faults ≡ 0 }
         ensures starved { result.starved ≡ 0 }
     {
@@ -27,6 +28,7 @@ impl RealShelf {
             system,
             reading: None,
             writing: None,
+            sealing,
             faults: 0,
             starved: 0,
         }
@@ -130,7 +132,7 @@ impl Shelf for RealShelf {
     }
 
     fn seal(&mut self, name: &str) -> Result<(), ShelfError> {
-        let done = open_file::seal(&self.system, &mut self.writing, name);
+        let done = open_file::seal(&self.system, &mut self.writing, name, self.sealing);
         self.answer(done)
     }
 }

@@ -1,3 +1,4 @@
+use crate::open_file::Sealing;
 use crate::real_shelf::RealShelf;
 use cook_top::{Status, cook};
 use shelf_core::{CreateError, Entry, MemShelf, MemSink, Shelf, ShelfError};
@@ -15,7 +16,7 @@ fn is_listed(entries: &[Entry], name: &str, plain: bool) -> bool {
 #[test]
 fn a_file_is_created_once_grows_and_is_read_in_pieces(rt: HostRuntime) -> Result<(), Fail> {
     let _ = fs::remove_dir_all(&rt, "written");
-    let mut shelf = RealShelf::new(rt);
+    let mut shelf = RealShelf::new(rt, Sealing::OnDisk);
     assert_eq!(rt; shelf.make_folder("written/reel/ä"), Ok(()));
     assert_eq!(rt; shelf.make_folder("written/reel/ä"), Ok(()));
     let song = "written/reel/ä/ö.txt";
@@ -51,7 +52,7 @@ fn a_listing_shows_each_thing_once_and_follows_no_link(rt: HostRuntime) -> Resul
     symlink(&rt, "empty", "listed/link")?;
     symlink(&rt, "reel", "listed/ring")?;
     symlink(&rt, "nowhere", "listed/astray")?;
-    let mut shelf = RealShelf::new(rt);
+    let mut shelf = RealShelf::new(rt, Sealing::OnDisk);
     let entries = shelf.list("listed")?;
     assert_eq!(rt; entries.len(), 5);
     assert!(rt; is_listed(entries.as_slice(), "reel/ä/ö.txt", true));
@@ -131,12 +132,19 @@ fn report_of(alloc: Global, count: usize) -> Result<String, AllocError> {
     format!(in alloc; "packed 4 files, 0 tracks, 0 blocks, {count} bytes\n")
 }
 
+// Whether the restored folder has the bytes of the packed one at a name.
+fn came_back(rt: &HostRuntime, name: &str) -> Result<bool, Fail> {
+    let packed = fs::read(rt, format!(in rt.alloc(); "packed/{name}")?.as_str())?;
+    let back = fs::read(rt, format!(in rt.alloc(); "packed/back/{name}")?.as_str())?;
+    Ok(packed.as_slice() == back.as_slice())
+}
+
 #[test]
-fn a_real_folder_is_packed_as_the_same_files_in_memory_are(rt: HostRuntime) -> Result<(), Fail> {
+fn a_real_folder_is_packed_as_in_memory_and_comes_back(rt: HostRuntime) -> Result<(), Fail> {
     let mut memory = MemShelf::new(rt.alloc(), Vec::new(rt.alloc()), Vec::new(rt.alloc()));
     lay(&rt, &mut memory)?;
     let in_memory = pack_folder(&rt, rt.alloc(), &mut memory)?;
-    let on_disk = pack_folder(&rt, rt.alloc(), &mut RealShelf::new(rt))?;
+    let on_disk = pack_folder(&rt, rt.alloc(), &mut RealShelf::new(rt, Sealing::OnDisk))?;
     let package = fs::read(&rt, "p.mkv")?;
     let report = report_of(rt.alloc(), package.len())?;
     assert_eq!(rt; on_disk.bytes(), report.as_bytes());
@@ -145,6 +153,15 @@ fn a_real_folder_is_packed_as_the_same_files_in_memory_are(rt: HostRuntime) -> R
     assert_eq!(rt; stored.len(), 5);
     assert_eq!(rt; stored[0].0.as_str(), "p.mkv");
     assert!(rt; stored[0].1.as_slice() == package.as_slice());
+    let mut shelf = RealShelf::new(rt, Sealing::LeftToSystem);
+    let (status, out) = run(rt.alloc(), &mut shelf, "restore p.mkv packed/back")?;
+    assert_eq!(rt; status.number(), 0);
+    let report = b"restored 4 files, 1572881 bytes\n";
+    assert_eq!(rt; out.bytes(), report.as_slice());
+    assert_eq!(rt; shelf.list("packed/back")?.len(), 4);
+    for name in ["empty", "reel.txt", "reel/long", "reel/ä/ö.txt"] {
+        assert!(rt; came_back(&rt, name)?, "{name}");
+    }
     fs::remove_dir_all(&rt, "packed")?;
     fs::remove_file(&rt, "p.mkv")?;
     Ok(())
@@ -157,7 +174,7 @@ fn a_package_in_the_way_is_left_as_it_is(rt: HostRuntime) -> Result<(), Fail> {
     fs::write(&rt, "taken/p.mkv", b"hello".as_slice())?;
     let (status, out) = run(
         rt.alloc(),
-        &mut RealShelf::new(rt),
+        &mut RealShelf::new(rt, Sealing::OnDisk),
         "pack taken/reel taken/p.mkv",
     )?;
     assert_eq!(rt; status.number(), 4);
@@ -174,7 +191,7 @@ fn a_folder_with_a_link_is_refused(rt: HostRuntime) -> Result<(), Fail> {
     fs::create_dir_all(&rt, "linked/reel")?;
     fs::write(&rt, "linked/note", b"hello".as_slice())?;
     symlink(&rt, "../note", "linked/reel/link")?;
-    let mut shelf = RealShelf::new(rt);
+    let mut shelf = RealShelf::new(rt, Sealing::OnDisk);
     let (status, out) = run(rt.alloc(), &mut shelf, "pack linked linked.mkv")?;
     assert_eq!(rt; status.number(), 2);
     assert_eq!(rt;
