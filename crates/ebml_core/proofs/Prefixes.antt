@@ -98,29 +98,25 @@ vint_len-take most (suc count) (first ∷ rest) h one =
       | false ↦ λ e. refl
     ] refl
 
+-- what is made of a number of that length is the same for so many bytes
+read-take : {X : Type 0} (most count : ℕ) (make : List ℕ → Option ℕ → X) (bytes : List ℕ) → most ≤ count → 1 ≤ count → make (take count bytes) None ≡ make bytes None
+    → ((len : ℕ) → big_number len (take count bytes) ≡ big_number len bytes → make (take count bytes) (Some len) ≡ make bytes (Some len)) → make (take count bytes) (vint_len most (take count bytes)) ≡ make bytes (vint_len most bytes)
+read-take most count make bytes h one none some =
+    rw (vint_len-take most count bytes h one)
+    (elim (vint_len most bytes) as (λ (o : Option ℕ). (vint_len most bytes ≡ o) → make (take count bytes) o ≡ make bytes o) [
+      | None ↦ λ e. none
+      | Some len ↦ λ e. (
+          let read = vint_len-read most len bytes e in
+          some len (big_from-take 0 len count bytes (omega (arith, read.within))))
+    ] refl)
+
 id_at-take : (count : ℕ) (bytes : List ℕ) → 4 ≤ count → id_at (take count bytes) ≡ id_at bytes
 unfolding id_at
-id_at-take count bytes h =
-    rw (vint_len-take 4 count bytes h (omega arith))
-    (elim (vint_len 4 bytes) as (λ (o : Option ℕ). (vint_len 4 bytes ≡ o) → id_of_len (take count bytes) o ≡ id_of_len bytes o) [
-      | None ↦ λ e. refl
-      | Some len ↦ λ e. (
-          let read = vint_len-read 4 len bytes e in
-          let number : big_number len (take count bytes) ≡ big_number len bytes = big_from-take 0 len count bytes (omega (arith, read.within)) in
-          rw number refl)
-    ] refl)
+id_at-take count bytes h = read-take 4 count id_of_len bytes h (omega arith) refl (λ len number. rw number refl)
 
 size_at-take : (count : ℕ) (bytes : List ℕ) → 8 ≤ count → size_at (take count bytes) ≡ size_at bytes
 unfolding size_at
-size_at-take count bytes h =
-    rw (vint_len-take 8 count bytes h (omega arith))
-    (elim (vint_len 8 bytes) as (λ (o : Option ℕ). (vint_len 8 bytes ≡ o) → size_of_len (take count bytes) o ≡ size_of_len bytes o) [
-      | None ↦ λ e. refl
-      | Some len ↦ λ e. (
-          let read = vint_len-read 8 len bytes e in
-          let number : big_number len (take count bytes) ≡ big_number len bytes = big_from-take 0 len count bytes (omega (arith, read.within)) in
-          rw number refl)
-    ] refl)
+size_at-take count bytes h = read-take 8 count size_of_len bytes h (omega arith) refl (λ len number. rw number refl)
 
 id_at-len : (bytes : List ℕ) (id : ℕ × ℕ) → id_at bytes ≡ Some id → id.1 ≤ 4
 unfolding id_at
