@@ -1,3 +1,5 @@
--- The definitions of names and directories, for every crate above.
+pub mod Bits
+pub mod Crc
+pub mod Laws
 pub mod Names
 pub mod Segments
