@@ -1,0 +1,16 @@
+pub mod BelowTests
+pub mod BlockRounds
+pub mod Files
+pub mod Fitting
+pub mod FrameRounds
+pub mod Masks
+pub mod Numbers
+pub mod PadChoice
+pub mod PadFilling
+pub mod PadRound
+pub mod PadRuns
+pub mod PadShortest
+pub mod Rounds
+pub mod Rows
+pub mod UnitRounds
+pub mod Written

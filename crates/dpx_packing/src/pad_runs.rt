@@ -1,0 +1,61 @@
+// The maximal runs of a list of pads: how many there are, and how long the first is.
+
+ghost use Rattle.std.specs.Prelude.{◌≡◌, ◌+◌, ◌-◌, ◌∷◌, ◌<◌, ◌≤◌, drop, length, slice_index, take};
+ghost use Rattle.dpx_packing.specs.PadForms.{runs_of};
+
+// So many places are counted in one byte, which LLVM does for sixteen at once.
+const BLOCK: usize = 128;
+
+/// How many runs the list has.
+#[tactic(auto, using(crate::proofs::PadRuns::run_counts))]
+pub fn run_count(pads: &[u8]) -> usize
+    ensures exact { result ≡ length (runs_of pads.now) }
+    ensures high { result ≤ length pads.now }
+{
+    if pads.is_empty() {
+        return 0;
+    }
+    let mut count = 1;
+    let mut at = 1;
+    while at < pads.len() {
+        let to = pads.len().min(at + BLOCK);
+        count += changes(pads, at, to) as usize;
+        at = to;
+    }
+    count
+}
+
+// How many runs begin from one place on and before another.
+#[tactic(auto, using(crate::proofs::PadRuns::run_counts))]
+fn changes(pads: &[u8], from: usize, to: usize) -> u8
+    requires low { 1 ≤ from }
+    requires order { from ≤ to }
+    requires high { to ≤ length pads.now }
+    requires few { to ≤ from + 128 }
+    ensures exact { length (runs_of (take to pads.now)) ≡ length (runs_of (take from pads.now)) + result }
+    ensures most { result ≤ to - from }
+{
+    let mut count = 0;
+    for i in from..to {
+        if pads[i] != pads[i - 1] {
+            count += 1;
+        }
+    }
+    count
+}
+
+/// How long the first run is.
+#[tactic(auto, using(crate::proofs::PadRuns::first_run_is))]
+pub fn first_run(pads: &[u8]) -> usize
+    requires { 0 < length pads.now }
+    ensures exact { runs_of pads.now ≡ record { times = result; value = slice_index pads.now 0 } ∷ runs_of (drop result pads.now) }
+    ensures low { 1 ≤ result }
+    ensures high { result ≤ length pads.now }
+{
+    let value = pads[0];
+    let mut len = 1;
+    while len < pads.len() && pads[len] == value {
+        len += 1;
+    }
+    len
+}
