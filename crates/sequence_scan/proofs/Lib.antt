@@ -1,0 +1,9 @@
+pub mod Ends
+pub mod Parting
+pub mod Values
+pub mod Order
+pub mod Back
+pub mod Steps
+pub mod LastFrames
+pub mod RunLaws
+pub mod Prefixes
