@@ -13,9 +13,10 @@ pub fn image_len(layout: &Layout) -> u64
     u64::from(layout.stride) * u64::from(layout.height)
 }
 
-// The values of the fill bits in a line.
+/// How many groups of fill bits a line of so many pixels has (SMPTE 268M, filled by method A): one a pixel at 10
+/// bits, one a sample at 12. It takes no memory.
 #[tactic(auto, unfolding(crate::specs::Layout::pads_in_line))]
-fn pads_in_line(bits: u8, width: u32) -> u32
+pub fn pads_in_line(bits: u8, width: u32) -> u32
     requires { width ≤ 16384 }
     ensures exact { result ≡ pads_in_line bits width }
     ensures high { result ≤ 49152 }

@@ -11,8 +11,9 @@ mod sharing;
 mod why;
 
 pub use layout_type::Layout;
-pub use lengths::{image_len, pad_len, sample_len};
+pub use lengths::{image_len, pad_len, pads_in_line, sample_len};
 pub use reading::layout;
+pub use rules::line_len;
 pub use why::DpxWhy;
 
 #[cfg(test)]

@@ -5,7 +5,8 @@ ghost use Rattle.dpx_header.specs.Layout.{line_len, aligned, is_size, is_depth, 
 
 use crate::header::Header;
 
-/// The bytes of a line.
+/// The bytes of a line of so many pixels (SMPTE 268M, image data), without the bytes of the stride past it. It
+/// takes no memory.
 #[tactic(auto, unfolding(crate::specs::Layout::line_len))]
 pub fn line_len(bits: u8, width: u32) -> u32
     requires { width ≤ 16384 }

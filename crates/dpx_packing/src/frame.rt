@@ -10,21 +10,8 @@ use crate::blocks::{Block, join_blocks, split_blocks};
 use crate::line::Line;
 use crate::units::{Unit8, Unit10, Unit12, Unit16};
 use byteorder::{BE, LE};
-use dpx_header::Layout;
+use dpx_header::{Layout, line_len, pads_in_line};
 use std::marker::PhantomData;
-
-// The bytes of a line without those of the stride past it.
-#[tactic(auto, unfolding(dpx_header::specs::Layout::line_len))]
-fn line_len(bits: u8, width: u32) -> u32
-    requires { width ≤ 16384 }
-    ensures { result ≡ line_len bits width }
-{
-    match bits {
-        8 => 3 * width,
-        10 => 4 * width,
-        _ => 6 * width,
-    }
-}
 
 // The bytes of the stride past a line.
 fn spare_len(layout: &Layout) -> u32
@@ -170,19 +157,6 @@ fn lines_fit(limit: u8, units: usize, line: usize, height: usize, pads: &[u8]) -
         }
     }
     true
-}
-
-// The pads of a line's units.
-#[tactic(auto, unfolding(dpx_header::specs::Layout::pads_in_line))]
-fn pads_in_line(bits: u8, width: u32) -> u32
-    requires { width ≤ 16384 }
-    ensures { result ≡ pads_in_line bits width }
-{
-    match bits {
-        10 => width,
-        12 => 3 * width,
-        _ => 0,
-    }
 }
 
 // The pads of units are below this.
