@@ -1,0 +1,13 @@
+pub mod Expected
+pub mod ReadLaws
+pub mod RecordLaws
+pub mod RepeatLaws
+pub mod RoundTrip
+pub mod RowLaws
+pub mod RunLaws
+pub mod RunReadLaws
+pub mod SetLaws
+pub mod SymbolLaws
+pub mod TableLaws
+pub mod ValueLaws
+pub mod WalkLaws

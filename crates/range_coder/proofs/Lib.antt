@@ -1,0 +1,16 @@
+pub mod Carries
+pub mod ChoiceLaws
+pub mod CodedLaws
+pub mod Codings
+pub mod Exponents
+pub mod Intervals
+pub mod LowBits
+pub mod Numbers
+pub mod Parting
+pub mod PlacedNumbers
+pub mod Readers
+pub mod Slots
+pub mod SlotsOfSymbols
+pub mod Symbols
+pub mod Tables
+pub mod Windows

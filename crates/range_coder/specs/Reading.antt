@@ -1,0 +1,30 @@
+-- A reader of bytes within a range: how far the number that they name stands above the low end of the
+-- interval, and the bytes that are left.
+use Rattle.std.specs.Prelude.{◌≡◌, ℕ, ◌+◌, ◌<◌, List, slice_index}
+use Rattle.range_coder.specs.Interval.{Decision, Interval, whole, first_bytes, narrowed}
+
+pub record Reader : Type 0 where
+  pub offset : ℕ
+  pub range : ℕ
+  pub rest : List ℕ
+
+-- the reader has read these bytes as far as the interval, in which the number stands
+pub record HasRead (reader : Reader) (bytes : List ℕ) (i : Interval) : Type 0 where
+  pub range : reader.range ≡ i.range
+  pub number : i.low + reader.offset ≡ first_bytes (i.shifts + 2) bytes
+  pub inside : reader.offset < reader.range
+  pub rest : (k : ℕ) → slice_index reader.rest k ≡ slice_index bytes (i.shifts + 2 + k)
+
+-- between two states of a reader these decisions were read, whatever the bytes were and whatever had
+-- been read of them before
+pub record ReadsOn (before after : Reader) (decisions : List Decision) : Type 0 where
+  pub reads : (bytes : List ℕ) (i : Interval) → HasRead before bytes i → HasRead after bytes (narrowed i decisions)
+
+-- the numbers are bytes
+pub record AreBytes (bytes : List ℕ) : Type 0 where
+  pub each : (k : ℕ) → slice_index bytes k < 256
+
+-- a reader of these bytes at their start
+pub record Begins (reader : Reader) (bytes : List ℕ) : Type 0 where
+  pub are_bytes : AreBytes bytes
+  pub has_read : HasRead reader bytes whole

@@ -1,0 +1,102 @@
+ghost use Rattle.std.specs.Prelude.{◌≡◌, ℕ, ◌+◌, ◌-◌, ◌<◌, ◌≤◌, ◌↔◌, [], ◌∷◌, nat_le, if◌then◌else◌, slice_index, IsNone, IfSome};
+ghost use Rattle.range_coder.specs.Interval.{part_of_one, Decision};
+ghost use Rattle.range_coder.specs.Reading.{Begins, ReadsOn};
+ghost use Rattle.range_coder.specs.Table.{IsState, IsLive, IsClosed, next_state};
+
+use crate::Table;
+use std::marker::Model;
+
+/// Reads bits from coded bytes (RFC 9043, section 3.8.1.1). Past the end of the bytes it reads zeros.
+#[derive(Drop)]
+pub struct Decoder<'a> {
+    rest: &'a [u8],
+    offset: u32,
+    range: u32,
+}
+
+impl<'a> Model for Decoder<'a> {
+    ghost use Rattle.std.specs.Prelude.{◌<◌, ◌≤◌};
+    ghost use Rattle.range_coder.specs.Reading.{Reader};
+
+    ghost Value = { Reader };
+
+    ghost view = { λ d. record { offset = d.offset; range = d.range; rest = d.rest.now } };
+
+    ghost invariant = { λ d. (d.offset < d.range) × (256 ≤ d.range) × (d.range ≤ 65280) };
+}
+
+impl<'a> Decoder<'a> {
+    /// Begins to read the bytes. There are none to read where the first byte is 255. It takes no memory.
+    pub fn new(bytes: &'a [u8]) -> Option<Decoder<'a>>
+        ensures refused { IsNone result ↔ (slice_index bytes.now 0 ≡ 255) }
+        ensures begins { IfSome result (λ d. Begins d bytes.now) }
+    {
+        let (high, rest) = split_byte(bytes);
+        let (low, rest) = split_byte(rest);
+        if high == 255 {
+            return None;
+        }
+        Some(Decoder {
+            rest,
+            offset: u32::from(high) * 256 + u32::from(low),
+            range: 65280,
+        })
+    }
+
+    /// Reads a bit with the state, and adapts the state. It takes no memory.
+    pub fn get(&mut self, table: &Table, state: &mut u8) -> bool
+        requires live { IsLive table.now state.old }
+        ensures reads { ReadsOn self.old self.new (record { state = state.old; bit = result } ∷ []) }
+        ensures next { state.new ≡ next_state table.now state.old result }
+        ensures live { IsLive table.now state.new }
+        ensures closed { IsClosed table.now }
+    {
+        let (bit, offset, range) = part(self.offset, self.range, *state);
+        *state = table.next(*state, bit);
+        if range < 256 {
+            let (byte, rest) = split_byte(self.rest);
+            self.rest = rest;
+            self.offset = offset * 256 + u32::from(byte);
+            self.range = range * 256;
+        } else {
+            self.offset = offset;
+            self.range = range;
+        }
+        bit
+    }
+}
+
+// The bit in whose part of the range the offset stands, and the offset in that part and its range.
+#[inline(always)]
+fn part(offset: u32, range: u32, state: u8) -> (bool, u32, u32)
+    requires usable { IsState state }
+    requires least { 256 ≤ range }
+    requires most { range ≤ 65280 }
+    requires inside { offset < range }
+    ensures bit { result.0 ≡ nat_le (range - part_of_one range state) offset }
+    ensures offset { result.1 ≡ (if result.0 then offset - (range - part_of_one range state) else offset) }
+    ensures range { result.2 ≡ (if result.0 then part_of_one range state else range - part_of_one range state) }
+    ensures inside { result.1 < result.2 }
+    ensures most { result.2 ≤ 65280 }
+{
+    let ones = range * u32::from(state) / 256;
+    let zeros = range - ones;
+    if offset >= zeros {
+        (true, offset - zeros, ones)
+    } else {
+        (false, offset, zeros)
+    }
+}
+
+// The first byte, or 0 where there is none, and the bytes after it.
+#[inline(always)]
+fn split_byte(bytes: &[u8]) -> (u8, &[u8])
+    ensures byte { result.0 ≡ slice_index bytes.now 0 }
+    ensures fits { result.0 < 256 }
+    ensures rest { (k : ℕ) → slice_index result.1.now k ≡ slice_index bytes.now (k + 1) }
+{
+    match bytes {
+        [first, rest @ ..] => (*first, rest),
+        [] => (0, bytes),
+    }
+}
