@@ -1,16 +1,15 @@
 -- Values that stand in coded bytes are read again.
-use Rattle.std.proofs.Common.{◌≡◌, ℕ, zero, suc, ◌+◌, ◌-◌, ◌*◌, ◌^◌, ◌<◌, ◌≤◌, Bool, true, false, cond, nat_le, nat_eq, List, [], ◌∷◌, ◌++◌, length, sum, All, Result, Ok, Err, refl, sym, ap, subst, ◌∙◌, append_assoc, arith, ℤ, pos}
-use Rattle.std.specs.List.{flat_map, AllByRecursion}
+use Rattle.std.proofs.Common.{◌≡◌, ℕ, zero, suc, ◌+◌, ◌-◌, ◌^◌, ◌<◌, ◌≤◌, Bool, true, false, nat_le, nat_eq, List, [], ◌∷◌, ◌++◌, length, sum, Result, Ok, refl, sym, ap, subst, ◌∙◌, append_assoc, arith, pos}
+use Rattle.std.specs.List.{AllByRecursion}
 use Rattle.std.proofs.lemmas.Bool.{le-leb, ne_eqb}
 use Rattle.std.proofs.lemmas.List.{append-nil}
 use Rattle.std.proofs.lemmas.List.Concat.{flat_map-cons}
 use Rattle.std.proofs.lemmas.List.Sums.{sum_by-cons}
-use Rattle.std.proofs.lemmas.List.Elements.{All-append, All-cons}
+use Rattle.std.proofs.lemmas.List.Elements.{All-append}
 use Rattle.range_coder.specs.Interval.{Decision, Reads, coded}
 use Rattle.range_coder.specs.Choices.{Choice, decided, states_after, UseSlots}
-use Rattle.range_coder.specs.Symbol.{symbol_choices, fresh_states}
+use Rattle.range_coder.specs.Symbol.{fresh_states}
 use Rattle.range_coder.specs.Table.{IsClosed, AreLive}
-use Rattle.range_coder.specs.Reading.{AreBytes}
 use Rattle.range_coder.specs.DefaultTable.{default_one_states}
 use Rattle.range_coder.specs.Laws.{OnStates, CodedAreBytes}
 use Rattle.ffv1_params.specs.Record.{Field, number, single, table, number_choices, bit_choices, run_choices, field_decisions, states_after_field, fields_decisions}

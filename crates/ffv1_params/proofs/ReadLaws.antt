@@ -1,8 +1,8 @@
 -- A whole record as it is read.
-use Rattle.std.proofs.Common.{◌≡◌, ◌≢◌, ℕ, zero, suc, ◌+◌, ◌-◌, ◌<◌, ◌≤◌, Bool, true, false, ◌||◌, not, cond, nat_lt, nat_eq, List, [], ◌∷◌, length, slice_index, Result, Ok, Err, refl, sym, ap, subst, ◌∙◌, arith}
+use Rattle.std.proofs.Common.{◌≡◌, ℕ, ◌<◌, ◌≤◌, Bool, true, false, ◌||◌, not, cond, nat_lt, nat_eq, List, length, slice_index, Result, Ok, Err, refl, sym, ap, subst, ◌∙◌, arith}
 use Rattle.std.proofs.lemmas.Bool.{lt-ltb, le-ltb, eq-eqb, ne_eqb}
 use Rattle.cook_bits.specs.Crc.{crc32_high_of}
-use Rattle.range_coder.specs.Interval.{whole, narrowed}
+use Rattle.range_coder.specs.Interval.{narrowed}
 use Rattle.range_coder.specs.Reading.{Reader, Begins}
 use Rattle.range_coder.specs.Symbol.{fresh_states}
 use Rattle.range_coder.specs.Table.{AreLive}
@@ -11,8 +11,8 @@ use Rattle.ffv1_params.specs.declared.error.ParamsWhy.{ParamsWhy}
 use Rattle.ffv1_params.specs.declared.error.ParamsWhy.TheVariants.{RecordCrc, Start}
 use Rattle.ffv1_params.specs.declared.error.ParamsWhy.TheVariants as why
 use Rattle.ffv1_params.specs.Parameters.{Parameters}
-use Rattle.ffv1_params.specs.Reading.{Place, Reading, give, parameters, start_place, value_of, before_parity, record_read}
-use Rattle.ffv1_params.specs.Walk.{Walk, walk_of, IsAt, Leads, Refuses, Fails, Answers, FailsRead, Gives}
+use Rattle.ffv1_params.specs.Reading.{give, parameters, start_place, value_of, before_parity, record_read}
+use Rattle.ffv1_params.specs.Walk.{Walk, walk_of, IsAt, Fails, Answers, FailsRead, Gives}
 
 pub too_short : (bytes : List ℕ) → length bytes < 4 → record_read bytes ≡ Err RecordCrc
 unfolding record_read

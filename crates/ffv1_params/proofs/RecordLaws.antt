@@ -1,9 +1,8 @@
 -- The record as it is put value by value, and how long it is.
-use Rattle.std.proofs.Common.{◌≡◌, ℕ, zero, suc, ◌+◌, ◌-◌, ◌*◌, ◌/◌, ◌^◌, ◌<◌, ◌≤◌, Bool, true, false, cond, nat_lt, nat_le, nat_eq, List, [], ◌∷◌, ◌++◌, length, refl, sym, ap, ◌∙◌, length-append, arith, ℤ, pos, unsigned_abs}
-use Rattle.std.proofs.lemmas.Bool.Decides.{nat_tests}
+use Rattle.std.proofs.Common.{◌≡◌, ℕ, zero, suc, ◌+◌, ◌*◌, ◌/◌, ◌^◌, ◌≤◌, Bool, true, false, cond, nat_lt, nat_le, nat_eq, List, [], ◌∷◌, ◌++◌, length, refl, sym, ap, ◌∙◌, length-append, arith}
 use Rattle.std.specs.Int.{bytes_high_first}
 use Rattle.range_coder.specs.Interval.{Decision, Interval, whole, part, renewed, narrow, narrowed, bytes_in, ending, coded}
-use Rattle.range_coder.specs.Choices.{Choice, adapted, decided, states_after}
+use Rattle.range_coder.specs.Choices.{Choice, adapted, decided}
 use Rattle.range_coder.specs.Symbol.{choice, exponent_up_to, exponent_of, ones, exponent_choices, low_bits, symbol_choices, fresh_states}
 use Rattle.cook_bits.specs.Crc.{crc32_high_of}
 use Rattle.range_coder.specs.DefaultTable.{default_one_states}

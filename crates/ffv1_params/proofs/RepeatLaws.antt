@@ -1,11 +1,11 @@
 -- Readings that are repeated.
-use Rattle.std.proofs.Common.{◌≡◌, ℕ, zero, suc, ◌+◌, ◌-◌, ◌<◌, ◌≤◌, Bool, true, false, List, [], ◌∷◌, ◌++◌, length, All, Result, Ok, Err, refl, sym, ap, subst, ◌∙◌, append_assoc, length-append, arith}
+use Rattle.std.proofs.Common.{◌≡◌, ℕ, suc, ◌+◌, ◌-◌, ◌<◌, ◌≤◌, List, [], ◌∷◌, ◌++◌, length, All, Result, Ok, Err, refl, sym, ap, subst, ◌∙◌, append_assoc, length-append, arith}
 use Rattle.std.proofs.lemmas.List.{append-nil}
 use Rattle.std.proofs.lemmas.List.Elements.{All-append, All-cons}
 use Rattle.ffv1_params.specs.declared.error.ParamsWhy.{ParamsWhy}
 use Rattle.ffv1_params.specs.declared.error.ParamsWhy.TheVariants.{States}
-use Rattle.ffv1_params.specs.Reading.{Place, Reading, ◌>>=◌, give, refuse, handed_on, repeated, unset, no_states}
-use Rattle.ffv1_params.specs.Walk.{Walk, IsAt, Came, Leads, Refuses, Fails}
+use Rattle.ffv1_params.specs.Reading.{Place, Reading, ◌>>=◌, give, handed_on, repeated, unset, no_states}
+use Rattle.ffv1_params.specs.Walk.{Walk, Leads, Fails}
 use Rattle.ffv1_params.proofs.WalkLaws.{leads_on, leads_rest, leads_here, fails_now, fails_rest, fails_as, refuses_now, refuses_rest}
 
 -- what was read before, and what is still read

@@ -1,18 +1,16 @@
 -- The writer's record is read as the writer's parameters.
-use Rattle.std.proofs.Common.{◌≡◌, ℕ, zero, suc, ◌+◌, ◌-◌, ◌*◌, ◌^◌, ◌<◌, ◌≤◌, Bool, true, false, ◌&&◌, ◌||◌, cond, nat_le, nat_eq, List, [], ◌∷◌, ◌++◌, length, slice_index, sum, take, map, All, Result, Ok, Err, IsTrue, refl, sym, ap, subst, ◌∙◌, append_assoc, length-append, inl, inr, ◌⊎◌, arith}
+use Rattle.std.proofs.Common.{◌≡◌, ℕ, zero, suc, ◌+◌, ◌-◌, ◌*◌, ◌^◌, ◌<◌, ◌≤◌, Bool, true, false, ◌&&◌, ◌||◌, cond, nat_le, nat_eq, List, [], ◌∷◌, ◌++◌, length, slice_index, sum, map, Ok, IsTrue, refl, sym, ap, subst, ◌∙◌, length-append, inl, inr, ◌⊎◌, arith}
 use Rattle.std.specs.List.{AllByRecursion}
 use Rattle.std.specs.Int.{bytes_high_first}
 use Rattle.std.proofs.lemmas.Bool.{le-leb, ne_eqb, eqb-true}
-use Rattle.std.proofs.lemmas.Bool.Decides.{nat_tests}
 use Rattle.std.proofs.lemmas.List.{take_at}
 use Rattle.cook_bits.specs.Crc.{crc32_high_of}
 use Rattle.cook_bits.specs.Laws.{ParityLeavesZero}
-use Rattle.range_coder.specs.Interval.{Reads, coded}
+use Rattle.range_coder.specs.Interval.{coded}
 use Rattle.range_coder.specs.Laws.{CodedIsRead, CodedAreBytes, CodedBegins, OnStates}
-use Rattle.range_coder.specs.DefaultTable.{default_one_states}
 use Rattle.ffv1_params.specs.declared.error.ParamsWhy.{ParamsWhy}
 use Rattle.ffv1_params.specs.declared.error.ParamsWhy.TheVariants.{Version, Coder, Colour, Grid, Tables, Contexts, States, Ec}
-use Rattle.ffv1_params.specs.QuantTables.{QuantSet, set_of, context_count}
+use Rattle.ffv1_params.specs.QuantTables.{set_of, context_count}
 use Rattle.ffv1_params.specs.Parameters.{Parameters, AreFilm, is_depth, film_tables, film_params, stepped, flat}
 use Rattle.ffv1_params.specs.Record.{Field, number, single, table, version_fields, colour_fields, grid_fields, set_fields, flag_fields, film_fields, record_decisions, with_parity, record_of}
 use Rattle.ffv1_params.specs.Reading as reading

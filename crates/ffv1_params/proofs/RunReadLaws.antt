@@ -1,19 +1,18 @@
 -- The runs of a table as they are read.
-use Rattle.std.proofs.Common.{◌≡◌, ℕ, zero, suc, ◌+◌, ◌-◌, ◌<◌, ◌≤◌, Bool, true, false, cond, nat_le, nat_eq, List, [], ◌∷◌, ◌++◌, length, sum, All, Result, Ok, Err, refl, sym, ap, subst, ◌∙◌, append_assoc, length-append, arith}
+use Rattle.std.proofs.Common.{◌≡◌, ℕ, zero, suc, ◌+◌, ◌-◌, ◌<◌, ◌≤◌, true, false, nat_le, nat_eq, List, [], ◌∷◌, ◌++◌, length, sum, Result, Ok, refl, sym, ap, subst, ◌∙◌, length-append, arith}
 use Rattle.std.proofs.lemmas.Bool.{le-leb, lt-leb, ne_eqb}
 use Rattle.std.proofs.lemmas.List.{append-nil}
 use Rattle.std.proofs.lemmas.List.Sums.{sum_by_push}
-use Rattle.range_coder.specs.Interval.{whole, narrowed}
 use Rattle.range_coder.specs.Symbol.{fresh_states}
 use Rattle.range_coder.specs.Table.{AreLive}
-use Rattle.range_coder.specs.Reading.{Reader, HasRead}
+use Rattle.range_coder.specs.Reading.{Reader}
 use Rattle.range_coder.specs.DefaultTable.{default_one_states}
 use Rattle.ffv1_params.specs.declared.error.ParamsWhy.{ParamsWhy}
 use Rattle.ffv1_params.specs.declared.error.ParamsWhy.TheVariants.{Tables}
-use Rattle.ffv1_params.specs.Reading.{Place, Reading, ◌>>=◌, give, refuse, handed_on, symbol, runs_of, table, with_states}
+use Rattle.ffv1_params.specs.Reading.{Place, ◌>>=◌, give, refuse, handed_on, symbol, runs_of, table, with_states}
 use Rattle.ffv1_params.specs.QuantTables.{IsTable}
-use Rattle.ffv1_params.specs.Walk.{Walk, walk_of, IsAt, Came, Leads, Refuses, Fails}
-use Rattle.ffv1_params.proofs.WalkLaws.{leads_rest, fails_now, fails_rest, fails_as, fails, refuses_rest}
+use Rattle.ffv1_params.specs.Walk.{Walk, walk_of, IsAt, Leads, Refuses, Fails}
+use Rattle.ffv1_params.proofs.WalkLaws.{leads_rest, fails_rest, fails_as, fails}
 use Rattle.ffv1_params.proofs.RepeatLaws.{front_then, front_none, front_fails, read_front}
 
 not_zero : (left : ℕ) → 1 ≤ left → nat_eq left 0 ≡ false

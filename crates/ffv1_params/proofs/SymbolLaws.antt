@@ -1,23 +1,23 @@
 -- What bytes are read as next.
-use Rattle.std.proofs.Common.{◌≡◌, ◌≢◌, ℕ, zero, suc, ◌+◌, ◌-◌, ◌*◌, ◌^◌, ◌<◌, ◌≤◌, Bool, true, false, ◌&&◌, cond, nat_lt, nat_le, slice_index, List, [], ◌∷◌, ◌++◌, length, map, All, Option, Some, None, Result, Ok, Err, refl, sym, ap, subst, ◌∙◌, append_assoc, arith, inl, inr, ℤ, pos, negsuc, unsigned_abs, nat_abs}
+use Rattle.std.proofs.Common.{◌≡◌, ◌≢◌, ℕ, zero, suc, ◌+◌, ◌^◌, ◌<◌, Bool, true, false, ◌&&◌, cond, nat_lt, nat_le, slice_index, List, [], ◌∷◌, ◌++◌, length, Option, Some, None, Ok, refl, sym, ap, subst, ◌∙◌, append_assoc, arith, inl, inr, ℤ, pos, negsuc, unsigned_abs, nat_abs}
 use mir.Syntax.{w32}
 use mir.Val.{SFits, to_z, of_z}
 use Rattle.std.proofs.lemmas.Bool.{cases_lt, le-leb, lt-ltb, ltb-true, leb-true}
 use Rattle.std.proofs.lemmas.List.{append-nil}
 use Rattle.std.proofs.lemmas.List.Elements.{All-append, All-head, All-tail, All-cons}
-use Rattle.range_coder.specs.Interval.{Decision, Interval, whole, narrowed, first_bytes, Inside, Reads}
+use Rattle.range_coder.specs.Interval.{Decision, whole, narrowed, first_bytes, Inside, Reads}
 use Rattle.range_coder.specs.Choices.{Choice, adapted, decided, states_after, moved, UseSlots, Part}
 use Rattle.range_coder.specs.Symbol.{symbol_choices, overlong_choices, choice, IsCodable}
-use Rattle.range_coder.specs.Table.{IsState, IsLive, IsClosed, AreLive}
-use Rattle.range_coder.specs.Reading.{Reader, HasRead, ReadsOn, AreBytes}
+use Rattle.range_coder.specs.Table.{IsState, IsClosed, AreLive}
+use Rattle.range_coder.specs.Reading.{Reader, HasRead, AreBytes}
 use Rattle.range_coder.specs.Coding.{Gets}
 use Rattle.range_coder.specs.DefaultTable.{default_one_states}
-use Rattle.range_coder.specs.Laws.{OnStates, OneMoreIsRead, ReadsOneMore, FrontIsRead, ReadIsInside, NarrowedIsJoined, DecidedIsJoined, StatesAreJoined, ChoicesStayLive, ChoicesAreOnStates, ChoicesKeepCount, SymbolsPart, OverlongParts, SymbolSlots, OverlongSlots}
+use Rattle.range_coder.specs.Laws.{OnStates, OneMoreIsRead, FrontIsRead, ReadIsInside, NarrowedIsJoined, DecidedIsJoined, StatesAreJoined, ChoicesStayLive, ChoicesAreOnStates, ChoicesKeepCount, SymbolsPart, OverlongParts, SymbolSlots, OverlongSlots}
 use Rattle.std.proofs.lemmas.Int.{ints, to_z-of_z}
 use Rattle.ffv1_params.specs.declared.error.ParamsWhy.TheVariants.{Symbol}
 use Rattle.ffv1_params.specs.Record.{number_choices, bit_choices}
-use Rattle.ffv1_params.specs.Reading.{is_read, Place, after, first_below, found_or, number_at, bit_at, symbol, bit, taken, give, refuse}
-use Rattle.ffv1_params.specs.Walk.{Walk, walk_of, IsAt, Came, Leads, Refuses}
+use Rattle.ffv1_params.specs.Reading.{is_read, Place, after, first_below, found_or, number_at, bit_at, symbol, bit, taken, give}
+use Rattle.ffv1_params.specs.Walk.{Walk, walk_of, IsAt, Leads, Refuses}
 
 -- what the range coder promises of decisions, choices and symbols
 pub record Promises : Type 0 where

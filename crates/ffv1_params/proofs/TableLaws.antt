@@ -1,12 +1,12 @@
 -- The values of one table.
-use Rattle.std.proofs.Common.{◌≡◌, ℕ, zero, suc, ◌+◌, ◌-◌, ◌*◌, ◌<◌, ◌≤◌, Bool, true, false, cond, nat_lt, nat_eq, List, [], ◌∷◌, ◌++◌, length, sum, take, get_or, map, replicate, refl, sym, ap, subst, ◌∙◌, append_assoc, length-append, arith, rules, ℤ, pos, negsuc, neg_ℤ, unsigned_abs, inl, inr}
+use Rattle.std.proofs.Common.{◌≡◌, ℕ, zero, suc, ◌+◌, ◌-◌, ◌*◌, ◌<◌, ◌≤◌, List, [], ◌∷◌, ◌++◌, length, sum, take, get_or, map, replicate, refl, sym, ap, subst, ◌∙◌, append_assoc, length-append, arith, ℤ}
 use Rattle.std.proofs.lemmas.List.{append-nil}
-use Rattle.std.proofs.lemmas.List.FromFn.{length-map-range_with_len, get_or-map-range_with_len, map-range_with_len_more}
+use Rattle.std.proofs.lemmas.List.FromFn.{map-range_with_len_more}
 use Rattle.std.proofs.lemmas.List.Sums.{sum_by-cons}
 use Rattle.std.proofs.Math.ListN.{length-replicate}
 use Rattle.std.proofs.Math.Nat.{mul-le-mul_right}
 use Rattle.std.specs.List.{range_with_len}
-use Rattle.ffv1_params.specs.QuantTables.{steps_from, steps_of, height, entry, table_of, spread, IsTable}
+use Rattle.ffv1_params.specs.QuantTables.{steps_from, steps_of, entry}
 
 -- one run more
 pub steps_more : (first : ℕ) (runs : List ℕ) (i d : ℕ) → i < length runs → steps_from first (take (i + 1) runs) ≡ steps_from first (take i runs) ++ replicate (get_or runs i d) (first + i)

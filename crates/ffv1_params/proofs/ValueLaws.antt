@@ -1,11 +1,11 @@
 -- Single values of a record as they are read.
-use Rattle.std.proofs.Common.{◌≡◌, ℕ, zero, suc, ◌+◌, ◌-◌, ◌*◌, ◌<◌, ◌≤◌, Bool, true, false, cond, ◌&&◌, nat_le, nat_lt, nat_eq, List, [], ◌∷◌, Result, Ok, Err, IsTrue, refl, sym, ap, subst, ◌∙◌, arith}
+use Rattle.std.proofs.Common.{◌≡◌, ℕ, ◌+◌, ◌*◌, ◌<◌, ◌≤◌, true, false, cond, ◌&&◌, nat_le, List, refl}
 use Rattle.std.proofs.lemmas.Bool.{le-leb, lt-leb}
 use Rattle.ffv1_params.specs.declared.error.ParamsWhy.{ParamsWhy}
 use Rattle.ffv1_params.specs.declared.error.ParamsWhy.TheVariants.{Contexts, Grid}
 use Rattle.ffv1_params.specs.QuantTables.{QuantSet, set_of, context_count}
-use Rattle.ffv1_params.specs.Reading.{Place, Reading, ◌>>=◌, give, refuse, symbol, within, repeated, table, table_set, grid}
-use Rattle.ffv1_params.specs.Walk.{Walk, Leads, Refuses, Fails}
+use Rattle.ffv1_params.specs.Reading.{◌>>=◌, give, refuse, symbol, within, repeated, table, table_set, grid}
+use Rattle.ffv1_params.specs.Walk.{Walk, Leads, Refuses}
 use Rattle.ffv1_params.proofs.WalkLaws.{leads_on, leads_here, refuses_later, refuses_it}
 
 within_test : (n least most : ℕ) → least ≤ n → n ≤ most → (nat_le least n && nat_le n most) ≡ true

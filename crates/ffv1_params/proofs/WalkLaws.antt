@@ -1,9 +1,9 @@
 -- Readings one after another.
-use Rattle.std.proofs.Common.{◌≡◌, ℕ, List, Bool, true, false, cond, Result, Ok, Err, refl, sym, ap, ◌∙◌}
+use Rattle.std.proofs.Common.{Result, refl, ap, ◌∙◌}
 use Rattle.ffv1_params.specs.declared.error.ParamsWhy.{ParamsWhy}
 use Rattle.ffv1_params.specs.declared.error.ParamsWhy.TheVariants as why
 use Rattle.ffv1_params.specs.Reading.{Place, Reading, ◌>>=◌, give, refuse, handed_on}
-use Rattle.ffv1_params.specs.Walk.{Walk, IsAt, Came, Leads, Refuses, Fails, Answers}
+use Rattle.ffv1_params.specs.Walk.{Walk, Leads, Refuses, Fails}
 
 pub leads_on : {A B : Type 0} (a b c : Walk) (first : Reading A) (value : A) (next : A → Reading B) (rest : Reading B) → Leads a b first (give value) → Leads b c (next value) rest → Leads a c (first >>= next) rest
 unfolding ◌>>=◌ give

@@ -1,6 +1,6 @@
 -- Quantization tables (RFC 9043, "Quantization Table Set"): a set has five, and each is given by the lengths of runs
 -- of equal values in its first half.
-use Rattle.std.specs.Prelude.{◌≡◌, ℕ, zero, suc, ◌+◌, ◌-◌, ◌*◌, ◌/◌, ◌≤◌, ◌<◌, ◌==◌, Bool, nat_lt, if◌then◌else◌, List, [], ◌∷◌, ◌++◌, length, map, sum, replicate, slice_index, slice_index_or, ℤ, pos, ◌+ℤ◌, neg_ℤ, unsigned_abs}
+use Rattle.std.specs.Prelude.{◌≡◌, ℕ, suc, ◌+◌, ◌-◌, ◌*◌, ◌/◌, ◌≤◌, ◌<◌, ◌==◌, nat_lt, if◌then◌else◌, List, [], ◌∷◌, ◌++◌, length, map, sum, replicate, slice_index, slice_index_or, ℤ, pos, ◌+ℤ◌, neg_ℤ, unsigned_abs}
 use Rattle.std.specs.List.{range_with_len}
 
 -- the numbers of the runs in which the places of the first half stand, where the first run has the number `first`

@@ -1,9 +1,9 @@
 -- The record as it is read (RFC 9043, "Parameters" and "Configuration Record"). What bytes are read as
 -- is told by the decisions that they are read as: the next value is the one whose decisions the bytes
 -- are read as, behind those so far.
-use Rattle.std.specs.Prelude.{◌≡◌, ℕ, zero, suc, ◌+◌, ◌-◌, ◌*◌, ◌^◌, ◌==◌, ◌&&◌, ◌||◌, not, Bool, true, false, nat_lt, nat_le, if◌then◌else◌, List, [], ◌∷◌, ◌++◌, length, take, slice_index, Option, Some, None, Result, Ok, Err}
+use Rattle.std.specs.Prelude.{ℕ, zero, suc, ◌+◌, ◌-◌, ◌*◌, ◌^◌, ◌==◌, ◌&&◌, ◌||◌, not, Bool, true, nat_lt, nat_le, if◌then◌else◌, List, [], ◌∷◌, ◌++◌, length, take, slice_index, Option, Some, None, Result, Ok, Err}
 use Rattle.cook_bits.specs.Crc.{crc32_high_of}
-use Rattle.range_coder.specs.Interval.{Decision, Interval, whole, narrowed, first_bytes}
+use Rattle.range_coder.specs.Interval.{Decision, whole, narrowed, first_bytes}
 use Rattle.range_coder.specs.Choices.{Choice, decided, states_after}
 use Rattle.range_coder.specs.Symbol.{fresh_states}
 use Rattle.range_coder.specs.DefaultTable.{default_one_states}

@@ -1,5 +1,5 @@
 -- A reader with the shared states, on its way through a record.
-use Rattle.std.specs.Prelude.{◌≡◌, ℕ, List, Bool, true, length, Result, Ok, Err}
+use Rattle.std.specs.Prelude.{◌≡◌, ℕ, List, length, Result, Ok, Err}
 use Rattle.range_coder.specs.Interval.{whole, narrowed}
 use Rattle.range_coder.specs.Reading.{Reader, HasRead, AreBytes}
 use Rattle.range_coder.specs.Laws.{OnStates}

@@ -1,6 +1,6 @@
-use Rattle.std.proofs.Common.{◌≡◌, ◌*◌, ◌-◌, ◌≤◌, length, get_or, List, ℕ, sym, ◌∙◌, ap, subst, ◌++◌, map, OnOk}
+use Rattle.std.proofs.Common.{◌≡◌, ◌*◌, ◌≤◌, length, get_or, List, ℕ, sym, ◌∙◌, ap, subst, ◌++◌, map, OnOk}
 use Rattle.std.specs.List.{range_with_len}
-use Rattle.ffv1_params.specs.QuantTables.{steps_of, entry, table_of}
+use Rattle.ffv1_params.specs.QuantTables.{entry, table_of}
 use Rattle.ffv1_params.proofs.TableLaws.{length-steps, few_steps}
 use Rattle.ffv1_params.proofs.quantization.push_table.Goals as goal
 

@@ -1,4 +1,4 @@
-use Rattle.std.proofs.Common.{◌≡◌, ◌+◌, ◌++◌, [], ◌∷◌, refl, sym, ◌∙◌, arith}
+use Rattle.std.proofs.Common.{◌≡◌, ◌+◌, [], refl, sym, ◌∙◌, arith}
 use Rattle.ffv1_params.proofs.TableLaws.{steps_none, steps_more}
 use Rattle.ffv1_params.proofs.quantization.steps_in.Goals as goal
 

@@ -1,6 +1,6 @@
-use Rattle.std.proofs.Common.{◌≡◌, sym, subst}
+use Rattle.std.proofs.Common.{sym, subst}
 use Rattle.ffv1_params.specs.Parameters.{Parameters}
-use Rattle.ffv1_params.specs.Reading.{Reading, parameters, give}
+use Rattle.ffv1_params.specs.Reading.{parameters, give}
 use Rattle.ffv1_params.specs.Walk.{Leads}
 use Rattle.ffv1_params.proofs.WalkLaws.{leads_on, leads_here}
 use Rattle.ffv1_params.proofs.reading.params_of.Goals as goal

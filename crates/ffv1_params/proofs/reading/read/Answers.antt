@@ -1,7 +1,6 @@
-use Rattle.std.proofs.Common.{◌≡◌, ℕ, ◌+◌, sym, subst, ◌∙◌, ap, true, false, refl, arith}
-use Rattle.ffv1_params.specs.Reading.{before_parity, start_place, parameters}
-use Rattle.ffv1_params.specs.Walk.{Walk, walk_of, IsAt}
-use Rattle.range_coder.specs.Symbol.{fresh_states}
+use Rattle.std.proofs.Common.{◌≡◌, sym, subst, ◌∙◌, refl}
+use Rattle.ffv1_params.specs.Reading.{before_parity, start_place}
+use Rattle.ffv1_params.specs.Walk.{Walk, IsAt}
 use Rattle.ffv1_params.proofs.ReadLaws.{too_short, bad_parity, bad_start, read_on, gives}
 use Rattle.ffv1_params.proofs.reading.read.Goals as goal
 use Rattle.ffv1_params.proofs.reading.read.Goals.{then-bytes-lt-PARITY-via-then-bytes-lt-PARITY, then-bytes-lt-PARITY-via-else-bytes-lt-PARITY+then-crc32_high-ne0}

@@ -1,5 +1,3 @@
-use Rattle.std.proofs.Common.{◌≡◌, length, All, ◌≤◌}
-use Rattle.range_coder.specs.Symbol.{fresh_states}
 use Rattle.range_coder.specs.Table.{AreLive}
 use Rattle.ffv1_params.specs.Walk.{walk_of}
 use Rattle.ffv1_params.proofs.RunReadLaws.{RunsRead}

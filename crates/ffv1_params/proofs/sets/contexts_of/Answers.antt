@@ -1,4 +1,4 @@
-use Rattle.std.proofs.Common.{◌≡◌, ◌≤◌, ◌+◌, ◌*◌, ◌-◌, Fits, w64, length, get_or, ℕ, arith}
+use Rattle.std.proofs.Common.{◌≡◌, ◌≤◌, Fits, w64, get_or, ℕ, arith}
 use Rattle.ffv1_params.proofs.SetLaws.{scale_none, scale_step, step_small, end_small}
 use Rattle.ffv1_params.proofs.sets.contexts_of.Goals as goal
 

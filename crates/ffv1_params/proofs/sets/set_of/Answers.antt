@@ -1,4 +1,4 @@
-use Rattle.std.proofs.Common.{◌≡◌, ◌≤◌, ◌<◌, List, ℕ, sym, ap, subst, ◌∙◌, arith}
+use Rattle.std.proofs.Common.{◌≡◌, sym, ap, subst, ◌∙◌, arith}
 use Rattle.ffv1_params.specs.declared.error.ParamsWhy.TheVariants.{Contexts}
 use Rattle.ffv1_params.specs.QuantTables.{QuantSet, set_of, context_count}
 use Rattle.ffv1_params.specs.Reading.{give, table_set}

@@ -1,9 +1,7 @@
-use Rattle.std.proofs.Common.{◌≡◌, Result, Err, ap, sym, subst, arith}
+use Rattle.std.proofs.Common.{arith}
 use Rattle.std.proofs.lemmas.Result.{err_from_is_err_and}
-use Rattle.ffv1_params.specs.declared.error.ParamsWhy.{ParamsWhy}
 use Rattle.ffv1_params.specs.QuantTables.{IsTable}
-use Rattle.ffv1_params.specs.Reading.{repeated, table}
-use Rattle.ffv1_params.specs.Walk.{Answers, items_of}
+use Rattle.ffv1_params.specs.Reading.{table}
 use Rattle.ffv1_params.proofs.RepeatLaws.{repeating_none, repeating_more, repeating_fails, repeating_done}
 use Rattle.ffv1_params.proofs.sets.tables_of.Goals as goal
 

@@ -1,6 +1,6 @@
-use Rattle.std.proofs.Common.{◌≡◌, ◌≤◌, Fits, w32, ◌+◌, ◌/◌, ◌∙◌, List, ℕ, ℤ, sym, ap, subst, length, get_or, arith}
+use Rattle.std.proofs.Common.{◌≡◌, ◌≤◌, Fits, w32, ◌∙◌, List, ℕ, ℤ, sym, ap, subst, length, get_or, arith}
 use Rattle.std.proofs.lemmas.List.Elements.{recursion_from_All}
-use Rattle.ffv1_params.specs.QuantTables.{QuantSet, IsTable, TellsContexts, set_of}
+use Rattle.ffv1_params.specs.QuantTables.{IsTable, TellsContexts}
 use Rattle.ffv1_params.proofs.SetLaws.{none_so_far, one_more, few_so_far, all_so_far, record_of, set_tells}
 use Rattle.ffv1_params.proofs.quantization.TableSet.of_runs.Goals as goal
 
