@@ -232,9 +232,7 @@ mod tests {
         );
         let files = vec![in rt.alloc(); file]?;
         let mut shelf = MemShelf::new(rt.alloc(), files, Vec::new(rt.alloc()));
-        let sum = pack_directory(rt.alloc(), &mut shelf, "d", "p")
-            .ok()
-            .ok_or("packed")?;
+        let sum = pack_directory(rt.alloc(), &mut shelf, "d", "p")?;
         let packed = PackSum {
             files: 1,
             tracks: 0,

@@ -155,7 +155,7 @@ mod tests {
         alloc: Global,
         found: &'a [Found<'a>],
         more: u32,
-        faults: u64,
+        starved: u64,
     }
 
     // A name of seven digits.
@@ -195,9 +195,9 @@ mod tests {
 
         ghost unsealed = { λ shelf. None };
 
-        ghost faults = { λ shelf. shelf.faults };
+        ghost faults = { λ shelf. 0 };
 
-        ghost starved = { λ shelf. 0 };
+        ghost starved = { λ shelf. shelf.starved };
 
         ghost told_together = { λ shelf. refl };
 
@@ -207,8 +207,8 @@ mod tests {
             match entries(self.alloc, self.found, self.more) {
                 Ok(entries) => Ok(entries),
                 Err(NoMemory) => {
-                    self.faults = self.faults.saturating_add(1);
-                    Err(ShelfError::Failed)
+                    self.starved = self.starved.saturating_add(1);
+                    Err(ShelfError::NoMemory)
                 }
             }
         }
@@ -243,12 +243,13 @@ mod tests {
         }
     }
 
-    // The name and the reason of a refusal, without a reason for a file that isn't there.
-    fn refusal(answer: Result<Plan, PackError>) -> Option<(Name, Option<RefuseWhy>)> {
+    // The name and the reason of a refusal, without a reason for a file that isn't there. All other answers are handed on.
+    fn refusal(answer: Result<Plan, PackError>) -> Result<(Name, Option<RefuseWhy>), Fail> {
         match answer {
-            Err(PackError::Refused { name, why }) => Some((name, Some(why))),
-            Err(PackError::Missing { name }) => Some((name, None)),
-            _ => None,
+            Ok(_) => Err(Fail::new("planned")),
+            Err(PackError::Refused { name, why }) => Ok((name, Some(why))),
+            Err(PackError::Missing { name }) => Ok((name, None)),
+            Err(error) => Err(Fail::from(error)),
         }
     }
 
@@ -323,10 +324,9 @@ mod tests {
                 alloc: rt.alloc(),
                 found,
                 more: 0,
-                faults: 0,
+                starved: 0,
             };
-            let answer = refusal(plan(rt.alloc(), &mut shelf, "d"));
-            let (refused, reason) = answer.ok_or("refused")?;
+            let (refused, reason) = refusal(plan(rt.alloc(), &mut shelf, "d"))?;
             assert_eq!(rt; refused.as_str(), *name);
             assert_eq!(rt; reason, *why, "at {name}");
         }
@@ -343,7 +343,7 @@ mod tests {
                 alloc: rt.alloc(),
                 found: &[],
                 more,
-                faults: 0,
+                starved: 0,
             };
             match plan(rt.alloc(), &mut shelf, "d") {
                 Ok(plan) => {
@@ -351,7 +351,7 @@ mod tests {
                     assert_eq!(rt; reason, None);
                 }
                 answer => {
-                    let (name, why) = refusal(answer).ok_or("refused")?;
+                    let (name, why) = refusal(answer)?;
                     assert_eq!(rt; name.as_str(), "1000000");
                     assert_eq!(rt; why, reason);
                 }
@@ -371,9 +371,9 @@ mod tests {
             alloc: rt.alloc(),
             found: &found,
             more: 0,
-            faults: 0,
+            starved: 0,
         };
-        let plan = plan(rt.alloc(), &mut shelf, "d").ok().ok_or("planned")?;
+        let plan = plan(rt.alloc(), &mut shelf, "d")?;
         assert_eq!(rt; plan.files(), 3);
         assert_eq!(rt; plan.tracks(), 0);
         assert_eq!(rt; plan.root(), "d");

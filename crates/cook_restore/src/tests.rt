@@ -71,9 +71,7 @@ fn one_empty_file_is_given(rt: HostRuntime) -> Result<(), Fail> {
         changed(rt.alloc(), 0, b"")?,
         Vec::new(rt.alloc()),
     )?;
-    let mut restorer = open_package(rt.alloc(), &mut shelf, "p", Some("t"), 4)
-        .ok()
-        .ok_or("opened")?;
+    let mut restorer = open_package(rt.alloc(), &mut shelf, "p", Some("t"), 4)?;
     assert_eq!(rt; restorer.entries().len(), 1);
     assert_eq!(rt; restorer.entries()[0].name.as_str(), "notes.txt");
     let sum = FileSum {
@@ -98,9 +96,7 @@ fn without_a_target_files_are_checked_alone(rt: HostRuntime) -> Result<(), Fail>
         changed(rt.alloc(), 0, b"")?,
         Vec::new(rt.alloc()),
     )?;
-    let mut restorer = open_package(rt.alloc(), &mut shelf, "p", None, 64)
-        .ok()
-        .ok_or("opened")?;
+    let mut restorer = open_package(rt.alloc(), &mut shelf, "p", None, 64)?;
     let sum = FileSum {
         number: 0,
         length: 0,

@@ -1,6 +1,6 @@
 use super::{Outline, OutlineError, outline};
 use crate::samples::{EMPTY_DIRECTORY, ONE_FILE, push_hex};
-use shelf_core::{CreateError, MemShelf, Shelf};
+use shelf_core::{MemShelf, Shelf};
 use std::alloc::Global;
 use std::process::Abort;
 use std::test::Fail;
@@ -9,12 +9,10 @@ use std::test::Fail;
 const HEADER: &str = "1A45DFA38B 4282886D6174726F736B61";
 
 #[tactic(auto, using(shelf_core::proofs::FileLaws::file_laws))]
-fn outline_of(alloc: Global, bytes: &[u8]) -> Result<Result<Outline, OutlineError>, CreateError> {
+fn outline_of(alloc: Global, bytes: &[u8]) -> Result<Result<Outline, OutlineError>, Fail> {
     let mut shelf = MemShelf::new(alloc, Vec::new(alloc), Vec::new(alloc));
     shelf.create("package")?;
-    if shelf.append("package", bytes).is_err() {
-        return Err(CreateError::Failed);
-    }
+    shelf.append("package", bytes)?;
     Ok(outline(alloc, &mut shelf, "package", bytes.len() as u64))
 }
 
@@ -22,28 +20,22 @@ fn read(alloc: Global, head: &str, rest: &str) -> Result<Result<Outline, Outline
     let mut bytes = Vec::new(alloc);
     push_hex(&mut bytes, head)?;
     push_hex(&mut bytes, rest)?;
-    Ok(outline_of(alloc, bytes.as_slice())?)
+    outline_of(alloc, bytes.as_slice())
 }
 
 fn read_cut(alloc: Global, text: &str, len: usize) -> Result<Result<Outline, OutlineError>, Fail> {
     let mut bytes = Vec::new(alloc);
     push_hex(&mut bytes, text)?;
     bytes.truncate(len);
-    Ok(outline_of(alloc, bytes.as_slice())?)
+    outline_of(alloc, bytes.as_slice())
 }
 
-/// Where the first fault stands.
-fn place_of(outline: Result<Outline, OutlineError>) -> Option<u64> {
+/// Where the first fault stands. Other answers are handed on.
+fn place_of(outline: Result<Outline, OutlineError>) -> Result<u64, Fail> {
     match outline {
-        Err(OutlineError::Shape { place }) => Some(place),
-        _ => None,
-    }
-}
-
-fn has_no_files(outline: Result<Outline, OutlineError>) -> bool {
-    match outline {
-        Ok(outline) => outline.files().is_empty(),
-        Err(_) => false,
+        Ok(_) => Err(Fail::new("no fault")),
+        Err(OutlineError::Shape { place }) => Ok(place),
+        Err(error) => Err(Fail::from(error)),
     }
 }
 
@@ -92,10 +84,10 @@ fn one_empty_file_is_read_back(rt: HostRuntime) -> Result<(), Fail> {
 #[test]
 fn a_cut_package_is_faulty_where_it_is_cut(rt: HostRuntime) -> Result<(), Fail> {
     let alloc = rt.alloc();
-    assert_eq!(rt; place_of(read_cut(alloc, ONE_FILE, 230)?), Some(82));
-    assert_eq!(rt; place_of(read_cut(alloc, ONE_FILE, 45)?), Some(40));
-    assert_eq!(rt; place_of(read_cut(alloc, ONE_FILE, 0)?), Some(0));
-    assert!(rt; has_no_files(read_cut(alloc, ONE_FILE, 82)?));
+    assert_eq!(rt; place_of(read_cut(alloc, ONE_FILE, 230)?)?, 82);
+    assert_eq!(rt; place_of(read_cut(alloc, ONE_FILE, 45)?)?, 40);
+    assert_eq!(rt; place_of(read_cut(alloc, ONE_FILE, 0)?)?, 0);
+    assert!(rt; read_cut(alloc, ONE_FILE, 82)??.files().is_empty());
     Ok(())
 }
 
@@ -291,11 +283,7 @@ const WITHOUT_FILES: [(&str, &str); 6] = [
 #[test]
 fn a_faulty_header_is_found(rt: HostRuntime) -> Result<(), Fail> {
     for (what, text, place) in FAULTY_HEADERS {
-        assert_eq!(rt;
-            place_of(read(rt.alloc(), text, "")?),
-            Some(place),
-            "{what}"
-        );
+        assert_eq!(rt; place_of(read(rt.alloc(), text, "")?)?, place, "{what}");
     }
     Ok(())
 }
@@ -303,11 +291,7 @@ fn a_faulty_header_is_found(rt: HostRuntime) -> Result<(), Fail> {
 #[test]
 fn a_faulty_segment_is_found(rt: HostRuntime) -> Result<(), Fail> {
     for (what, text, place) in FAULTY_SEGMENTS {
-        assert_eq!(rt;
-            place_of(read(rt.alloc(), HEADER, text)?),
-            Some(place),
-            "{what}"
-        );
+        assert_eq!(rt; place_of(read(rt.alloc(), HEADER, text)?)?, place, "{what}");
     }
     Ok(())
 }
@@ -315,11 +299,15 @@ fn a_faulty_segment_is_found(rt: HostRuntime) -> Result<(), Fail> {
 #[test]
 fn what_is_not_named_is_passed_over(rt: HostRuntime) -> Result<(), Fail> {
     for (what, text) in WITHOUT_FILES {
-        assert!(rt; has_no_files(read(rt.alloc(), HEADER, text)?), "{what}");
+        let outline = read(rt.alloc(), HEADER, text)??;
+        assert!(rt; outline.files().is_empty(), "{what}");
     }
     let numbers =
         "1A45DFA3AA 4282886D6174726F736B61 42F780 42F280 42F380 428580 42F7880000000000000001 42868102 42858100 18538067FF";
-    assert!(rt; has_no_files(read(rt.alloc(), numbers, "")?), "numbers");
+    assert!(rt;
+        read(rt.alloc(), numbers, "")??.files().is_empty(),
+        "numbers"
+    );
     Ok(())
 }
 

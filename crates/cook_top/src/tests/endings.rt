@@ -18,7 +18,7 @@ pub fn ends<S: Shelf>(
 ) -> Result<Status, Fail> {
     let mut out = sink(alloc, 99)?;
     let status = cook_line(alloc, line, shelf, &mut out)?;
-    assert_eq!(rt; status.number(), number, "of {line:?}");
+    assert_eq!(rt; status.number(), number, "of {line:?}: {status:?}");
     assert_eq!(rt; out.bytes(), text.as_bytes(), "for {line:?}");
     Ok(status)
 }
@@ -94,7 +94,7 @@ fn a_report_fault_leaves_the_package_whole(rt: HostRuntime) -> Result<(), Fail> 
     let mut shelf = empty_shelf(rt.alloc());
     let mut out = sink(rt.alloc(), 1)?;
     let status = cook_line(rt.alloc(), "pack d p", &mut shelf, &mut out)?;
-    assert!(rt; matches!(status, Status::ReportFault));
+    assert!(rt; matches!(status, Status::ReportFault), "{status:?}");
     assert_eq!(rt; status.number(), 7);
     assert_eq!(rt; out.bytes().len(), 0);
     let wanted = hex(rt.alloc(), EMPTY_DIRECTORY)?;
@@ -108,7 +108,7 @@ fn a_refusal_stays_where_its_line_is_not_written(rt: HostRuntime) -> Result<(), 
     let mut shelf = empty_shelf(rt.alloc());
     let mut out = sink(rt.alloc(), 1)?;
     let status = cook_line(rt.alloc(), "pack a", &mut shelf, &mut out)?;
-    assert!(rt; matches!(status, Status::Usage));
+    assert!(rt; matches!(status, Status::Usage), "{status:?}");
     assert_eq!(rt; out.bytes().len(), 0);
     Ok(())
 }

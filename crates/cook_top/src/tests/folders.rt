@@ -28,6 +28,7 @@ struct Foldered {
     fickle: Option<u64>,
     readings: u32,
     faults: u64,
+    starved: u64,
 }
 
 // Whether the file stands in the folder and in none below it.
@@ -52,19 +53,21 @@ fn read_from(bytes: &[u8], at: u64, buf: &mut [u8]) -> usize
 }
 
 impl Foldered {
-    // The count of faults rises.
-    fn fail(&mut self) -> ShelfError
-        ensures answer { result ≡ ShelfError.Failed }
-        ensures rose { Rose self.old.faults self.new.faults }
-        ensures kept { self.old.faults ≤ self.new.faults }
+    // The count of refused allocations rises.
+    fn starve(&mut self) -> ShelfError
+        ensures answer { result ≡ ShelfError.NoMemory }
+        ensures rose { Rose self.old.starved self.new.starved }
+        ensures kept { self.old.starved ≤ self.new.starved }
+        ensures faults { self.new.faults ≡ self.old.faults }
     {
-        self.faults = self.faults.saturating_add(1);
-        ShelfError::Failed
+        self.starved = self.starved.saturating_add(1);
+        ShelfError::NoMemory
     }
 
     // Holds a file.
     fn hold(&mut self, name: &str, bytes: &[u8]) -> Result<(), NoMemory>
-        ensures { self.new.faults ≡ self.old.faults }
+        ensures faults { self.new.faults ≡ self.old.faults }
+        ensures starved { self.new.starved ≡ self.old.starved }
     {
         let name = Name::copy(self.alloc, name)?;
         let bytes = Vec::from_slice(self.alloc, bytes)?;
@@ -74,7 +77,8 @@ impl Foldered {
 
     // Adds bytes at the end of a file that is held.
     fn add(&mut self, name: &str, bytes: &[u8]) -> Result<(), NoMemory>
-        ensures { self.new.faults ≡ self.old.faults }
+        ensures faults { self.new.faults ≡ self.old.faults }
+        ensures starved { self.new.starved ≡ self.old.starved }
     {
         for file in self.files.iter_mut() {
             if file.name.as_str() == name {
@@ -86,7 +90,8 @@ impl Foldered {
 
     // Notes a folder.
     fn note(&mut self, name: &str) -> Result<(), NoMemory>
-        ensures { self.new.faults ≡ self.old.faults }
+        ensures faults { self.new.faults ≡ self.old.faults }
+        ensures starved { self.new.starved ≡ self.old.starved }
     {
         let name = Name::copy(self.alloc, name)?;
         self.folders.push(name)?;
@@ -118,7 +123,8 @@ impl Foldered {
 
     // Whether a reading from the place gives another byte.
     fn turns(&mut self, at: u64) -> bool
-        ensures { self.new.faults ≡ self.old.faults }
+        ensures faults { self.new.faults ≡ self.old.faults }
+        ensures starved { self.new.starved ≡ self.old.starved }
     {
         if self.fickle != Some(at) {
             return false;
@@ -140,7 +146,7 @@ impl Shelf for Foldered {
 
     ghost faults = { λ shelf. shelf.faults };
 
-    ghost starved = { λ shelf. 0 };
+    ghost starved = { λ shelf. shelf.starved };
 
     ghost told_together = { λ shelf. refl };
 
@@ -149,7 +155,7 @@ impl Shelf for Foldered {
     fn list(&mut self, root: &str) -> Result<Vec<Entry>, ShelfError> {
         match self.under(root) {
             Ok(entries) => Ok(entries),
-            Err(NoMemory) => Err(self.fail()),
+            Err(NoMemory) => Err(self.starve()),
         }
     }
 
@@ -177,27 +183,27 @@ impl Shelf for Foldered {
                 return match self.hold(name, &[]) {
                     Ok(()) => Ok(()),
                     Err(NoMemory) => {
-                        self.fail();
-                        Err(CreateError::Failed)
+                        self.starve();
+                        Err(CreateError::NoMemory)
                     }
                 };
             }
         }
-        self.fail();
+        self.faults = self.faults.saturating_add(1);
         Err(CreateError::Failed)
     }
 
     fn make_folder(&mut self, name: &str) -> Result<(), ShelfError> {
         match self.note(name) {
             Ok(()) => Ok(()),
-            Err(NoMemory) => Err(self.fail()),
+            Err(NoMemory) => Err(self.starve()),
         }
     }
 
     fn append(&mut self, name: &str, bytes: &[u8]) -> Result<(), ShelfError> {
         match self.add(name, bytes) {
             Ok(()) => Ok(()),
-            Err(NoMemory) => Err(self.fail()),
+            Err(NoMemory) => Err(self.starve()),
         }
     }
 
@@ -215,6 +221,7 @@ fn shelf_with(alloc: Global, package: &[u8], fickle: Option<u64>) -> Result<Fold
         fickle,
         readings: 0,
         faults: 0,
+        starved: 0,
     };
     shelf.hold("p", package)?;
     Ok(shelf)

@@ -51,7 +51,7 @@ pub fn packed(rt: &impl Abort, alloc: Global, shelf: &mut MemShelf) -> Result<Ve
     let mut out = sink(alloc, 99)?;
     let files = shelf.files().len();
     let status = cook_line(alloc, "pack d p", shelf, &mut out)?;
-    assert!(rt; matches!(status, Status::Done));
+    assert!(rt; matches!(status, Status::Done), "{status:?}");
     assert_eq!(rt; shelf.unsealed().len(), 0);
     let package = file_of(shelf, "p").ok_or("a package")?;
     let len = package.len();

@@ -233,7 +233,10 @@ fn a_shelf_fault_leaves_the_first_files(rt: HostRuntime) -> Result<(), Fail> {
             assert_eq!(rt; whole, 3);
             return Ok(());
         }
-        assert!(rt; matches!(status, Status::ShelfFault), "at call {call}");
+        assert!(rt;
+            matches!(status, Status::ShelfFault),
+            "at call {call}: {status:?}"
+        );
         assert_eq!(rt; out.bytes(), b"cook: shelf fault\n".as_slice());
         assert!(rt; before <= whole, "at call {call}");
         before = whole;

@@ -11,7 +11,7 @@ struct Fickle {
     alloc: Global,
     said: Option<u64>,
     given: u64,
-    faults: u64,
+    starved: u64,
 }
 
 fn one_entry(alloc: Global) -> Result<Vec<Entry>, NoMemory> {
@@ -31,9 +31,9 @@ impl Shelf for Fickle {
 
     ghost unsealed = { λ shelf. None };
 
-    ghost faults = { λ shelf. shelf.faults };
+    ghost faults = { λ shelf. 0 };
 
-    ghost starved = { λ shelf. 0 };
+    ghost starved = { λ shelf. shelf.starved };
 
     ghost told_together = { λ shelf. refl };
 
@@ -43,8 +43,8 @@ impl Shelf for Fickle {
         match one_entry(self.alloc) {
             Ok(entries) => Ok(entries),
             Err(NoMemory) => {
-                self.faults = self.faults.saturating_add(1);
-                Err(ShelfError::Failed)
+                self.starved = self.starved.saturating_add(1);
+                Err(ShelfError::NoMemory)
             }
         }
     }
@@ -81,16 +81,16 @@ fn a_file_that_gives_fewer_bytes_changed(rt: HostRuntime) -> Result<(), Fail> {
         alloc: rt.alloc(),
         said: Some(300000),
         given: 70000,
-        faults: 0,
+        starved: 0,
     };
     let mut out = sink(rt.alloc(), 99)?;
     let status = cook_line(rt.alloc(), "pack d p", &mut shelf, &mut out)?;
+    assert_eq!(rt; status.number(), 8, "{status:?}");
     let Status::Changed { name, was, now } = &status else {
         return Err(Fail::new("changed"));
     };
     assert_eq!(rt; name.as_str(), "a");
     assert_eq!(rt; (*was, *now), (300000, 70000));
-    assert_eq!(rt; status.number(), 8);
     let line = "cook: a: changed from 300000 to 70000 bytes\n";
     assert_eq!(rt; out.bytes(), line.as_bytes());
     Ok(())
@@ -102,15 +102,15 @@ fn a_listed_file_without_a_length_is_missing(rt: HostRuntime) -> Result<(), Fail
         alloc: rt.alloc(),
         said: None,
         given: 0,
-        faults: 0,
+        starved: 0,
     };
     let mut out = sink(rt.alloc(), 99)?;
     let status = cook_line(rt.alloc(), "pack d p", &mut shelf, &mut out)?;
+    assert_eq!(rt; status.number(), 9, "{status:?}");
     let Status::Missing { name } = &status else {
         return Err(Fail::new("missing"));
     };
     assert_eq!(rt; name.as_str(), "a");
-    assert_eq!(rt; status.number(), 9);
     assert_eq!(rt; out.bytes(), b"cook: a: not there\n".as_slice());
     Ok(())
 }
