@@ -9,10 +9,11 @@ mod sharing;
 mod tests;
 mod walk;
 
-use cook_top::{Order, cook, read_words};
+use cook_top::{Order, Status, cook, read_words};
 use open_file::Sealing;
-use real_shelf::RealShelf;
+use real_shelf::{Fault, RealShelf};
 use real_sink::RealSink;
+use std::fs::File;
 use std::process::ExitCode;
 use std::{env, io};
 
@@ -31,8 +32,22 @@ fn sealing_of(words: &[String]) -> Sealing {
     }
 }
 
+/// Tells on the standard error what the system said of which name, where that ended the work.
+fn tell_fault(system: &HostRuntime, shelf: &RealShelf) -> io::Result<()> {
+    match &shelf.last_fault {
+        Some(Fault { name, error }) => eprintln!(system; "cook: {name}: {error}"),
+        None => Ok(()),
+    }
+}
+
 /// Does what the words say. A command line that can't be read is as faulty as one without words.
 fn main(rt: HostRuntime) -> ExitCode {
+    // Where a standard stream is closed, the next file would be opened under its number, and the report go into that file.
+    let _streams = [
+        File::open(&rt, "/dev/null"),
+        File::open(&rt, "/dev/null"),
+        File::open(&rt, "/dev/null"),
+    ];
     let words = match words_of(&rt) {
         Ok(words) => words,
         Err(_) => Vec::new(rt.alloc()),
@@ -40,5 +55,8 @@ fn main(rt: HostRuntime) -> ExitCode {
     let mut shelf = RealShelf::new(rt, sealing_of(words.as_slice()));
     let mut out = RealSink::new(rt);
     let status = cook(rt.alloc(), words.as_slice(), &mut shelf, &mut out);
+    if matches!(status, Status::ShelfFault) {
+        let _ = tell_fault(&rt, &shelf);
+    }
     ExitCode::from(status.number())
 }

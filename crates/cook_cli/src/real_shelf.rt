@@ -1,4 +1,4 @@
-ghost use Rattle.std.specs.Prelude.{◌≡◌, ◌≤◌, IfOk};
+ghost use Rattle.std.specs.Prelude.{◌≡◌, ◌≤◌, IfOk, IfSome, string_bytes};
 ghost use Rattle.shelf_core.specs.Causes.{HasCause, Rose};
 
 use crate::open_file::{self, OpenFile, Sealing};
@@ -6,6 +6,13 @@ use crate::walk;
 use shelf_core::{CreateError, Entry, Shelf, ShelfError};
 use std::fs;
 use std::io::{self, ErrorKind};
+
+/// What the system said of a name where a call failed.
+#[derive(Drop)]
+pub(crate) struct Fault {
+    pub(crate) name: String,
+    pub(crate) error: io::Error,
+}
 
 /// The files of the system. One file is kept open for reading and one for writing.
 #[derive(Drop)]
@@ -16,6 +23,8 @@ pub struct RealShelf {
     sealing: Sealing,
     faults: u64,
     starved: u64,
+    /// The last fault that was counted, if there was memory to keep it.
+    pub(crate) last_fault: Option<Fault>,
 }
 
 impl RealShelf {
@@ -31,33 +40,37 @@ impl RealShelf {
             sealing,
             faults: 0,
             starved: 0,
+            last_fault: None,
         }
     }
 
-    /// Counts an error of the system: want of memory by itself, and every other as a fault.
-    fn refusal(&mut self, error: &io::Error) -> ShelfError
+    /// Counts an error of the system at a name: want of memory by itself, and every other as a fault, which is kept.
+    fn refusal(&mut self, name: &str, error: io::Error) -> ShelfError
         ensures faults_kept { self.old.faults ≤ self.new.faults }
         ensures starved_kept { self.old.starved ≤ self.new.starved }
         ensures fault { result ≡ ShelfError.Failed → Rose self.old.faults self.new.faults }
         ensures want { result ≡ ShelfError.NoMemory → Rose self.old.starved self.new.starved }
+        ensures named { result ≡ ShelfError.Failed → IfSome self.new.last_fault (λ fault. string_bytes fault.name ≡ name.now) }
     {
         if error.kind() == ErrorKind::OutOfMemory {
             self.starved = self.starved.saturating_add(1);
             ShelfError::NoMemory
         } else {
             self.faults = self.faults.saturating_add(1);
+            let kept = String::from_str(self.system.alloc(), name).ok();
+            self.last_fault = kept.map(|name| Fault { name, error });
             ShelfError::Failed
         }
     }
 
-    /// Hands on what the system gave, or counts its error.
-    fn answer<T: Drop>(&mut self, done: io::Result<T>) -> Result<T, ShelfError>
+    /// Hands on what the system gave for a name, or counts its error.
+    fn answer<T: Drop>(&mut self, name: &str, done: io::Result<T>) -> Result<T, ShelfError>
         ensures given { IfOk result (λ value. done ≡ Ok value) }
         ensures cause { HasCause ShelfError.Failed ShelfError.NoMemory self.old.faults self.new.faults self.old.starved self.new.starved result }
     {
         match done {
             Ok(value) => Ok(value),
-            Err(error) => Err(self.refusal(&error)),
+            Err(error) => Err(self.refusal(name, error)),
         }
     }
 }
@@ -94,17 +107,17 @@ impl Shelf for RealShelf {
 
     fn list(&mut self, root: &str) -> Result<Vec<Entry>, ShelfError> {
         let done = walk::list(&self.system, root);
-        self.answer(done)
+        self.answer(root, done)
     }
 
     fn len(&mut self, name: &str) -> Result<Option<u64>, ShelfError> {
         let done = length(&self.system, name);
-        self.answer(done)
+        self.answer(name, done)
     }
 
     fn read_at(&mut self, name: &str, at: u64, buf: &mut [u8]) -> Result<usize, ShelfError> {
         let done = open_file::read(&self.system, &mut self.reading, name, at, buf);
-        self.answer(done)
+        self.answer(name, done)
     }
 
     fn create(&mut self, name: &str) -> Result<(), CreateError> {
@@ -114,7 +127,7 @@ impl Shelf for RealShelf {
                 Ok(())
             }
             Err(error) if error.kind() == ErrorKind::AlreadyExists => Err(CreateError::Exists),
-            Err(error) => match self.refusal(&error) {
+            Err(error) => match self.refusal(name, error) {
                 ShelfError::Failed => Err(CreateError::Failed),
                 ShelfError::NoMemory => Err(CreateError::NoMemory),
             },
@@ -123,16 +136,16 @@ impl Shelf for RealShelf {
 
     fn make_folder(&mut self, name: &str) -> Result<(), ShelfError> {
         let done = fs::create_dir_all(&self.system, name);
-        self.answer(done)
+        self.answer(name, done)
     }
 
     fn append(&mut self, name: &str, bytes: &[u8]) -> Result<(), ShelfError> {
         let done = open_file::append(&self.system, &mut self.writing, name, bytes);
-        self.answer(done)
+        self.answer(name, done)
     }
 
     fn seal(&mut self, name: &str) -> Result<(), ShelfError> {
         let done = open_file::seal(&self.system, &mut self.writing, name, self.sealing);
-        self.answer(done)
+        self.answer(name, done)
     }
 }

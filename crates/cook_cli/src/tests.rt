@@ -1,9 +1,11 @@
 use crate::open_file::Sealing;
 use crate::real_shelf::RealShelf;
+use crate::sealing_of;
 use cook_top::{Status, cook};
 use shelf_core::{CreateError, Entry, MemShelf, MemSink, Shelf, ShelfError};
 use std::alloc::{AllocError, Global};
 use std::fs;
+use std::io::ErrorKind;
 use std::os::unix::fs::symlink;
 use std::process::Abort;
 use std::test::Fail;
@@ -37,6 +39,9 @@ fn a_file_is_created_once_grows_and_is_read_in_pieces(rt: HostRuntime) -> Result
     );
     assert_eq!(rt; shelf.append("written/none", b"a"), Err(ShelfError::Failed));
     assert_eq!(rt; shelf.create("written/none/a"), Err(CreateError::Failed));
+    let fault = shelf.last_fault.as_ref().ok_or("a fault")?;
+    assert_eq!(rt; fault.name.as_str(), "written/none/a");
+    assert_eq!(rt; fault.error.kind(), ErrorKind::NotFound);
     assert_eq!(rt; shelf.make_folder(song), Err(ShelfError::Failed));
     fs::remove_dir_all(&rt, "written")?;
     Ok(())
@@ -71,6 +76,21 @@ fn a_listing_shows_each_thing_once_and_follows_no_link(rt: HostRuntime) -> Resul
     Ok(())
 }
 
+// A package alone is to be on the disk before its report.
+#[test]
+fn packages_alone_are_sealed_on_the_disk(rt: HostRuntime) -> Result<(), Fail> {
+    let table = [
+        ("pack d p", Sealing::OnDisk),
+        ("restore p d", Sealing::LeftToSystem),
+        ("pack d", Sealing::LeftToSystem),
+    ];
+    for (line, wanted) in table {
+        let words = words_in(rt.alloc(), line)?;
+        assert_eq!(rt; sealing_of(words.as_slice()), wanted, "of {line:?}");
+    }
+    Ok(())
+}
+
 // Bytes of a file that takes more than one piece of 1 MiB. No two pieces are alike.
 fn long_bytes(alloc: Global) -> Result<Vec<u8>, AllocError> {
     let mut bytes = Vec::new(alloc);
@@ -89,12 +109,18 @@ fn put<S: Shelf>(shelf: &mut S, name: &str, bytes: &[u8]) -> Result<(), Fail> {
     Ok(())
 }
 
-// Does what a line says, whose words are parted by one space each: how it ended, and what was reported.
-fn run<S: Shelf>(alloc: Global, shelf: &mut S, line: &str) -> Result<(Status, MemSink), Fail> {
+// The words of a line, which are parted by one space each.
+fn words_in(alloc: Global, line: &str) -> Result<Vec<String>, AllocError> {
     let mut words = Vec::new(alloc);
     for word in line.split(' ') {
         words.push(String::from_str(alloc, word)?)?;
     }
+    Ok(words)
+}
+
+// Does what a line says: how it ended, and what was reported.
+fn run<S: Shelf>(alloc: Global, shelf: &mut S, line: &str) -> Result<(Status, MemSink), Fail> {
+    let words = words_in(alloc, line)?;
     let mut out = MemSink::new(alloc, 200, Vec::new(alloc))?;
     let status = cook(alloc, words.as_slice(), shelf, &mut out);
     Ok((status, out))
