@@ -1,5 +1,5 @@
 -- What a shelf tells of its files: all of them, or nothing. Each word here holds by itself where nothing is told, or is
--- the same nothing, so that one clause serves every shelf. The words are opaque to the crates above, which use their
+-- the same nothing, so that one clause serves every shelf. The words are opaque, and the crates above mostly use their
 -- laws (`proofs/FileLaws.antt`).
 use Rattle.std.specs.Prelude.{◌≡◌, ◌≢◌, ℕ, ◌-◌, ◌≤◌, min, not, List, [], ◌∷◌, ◌++◌, length, take, drop, filter, Contains, Option, Some, None, IsSome, unwrap_or}
 use Rattle.std.specs.Option.{option_map}
