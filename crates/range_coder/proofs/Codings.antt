@@ -38,6 +38,7 @@ puts_then_front table before states between held after left_states left right p 
       front = left ++ q.front;
       rest = q.rest;
       is = ap (λ (cs : List Choice). left ++ cs) q.is ∙ sym (append_assoc left q.front q.rest);
+      some = q.some;
       puts = puts_more table before states between held after left_states left q.front p q.puts;
       short = omega arith;
     }
@@ -50,6 +51,7 @@ front_of_more table before states after left_states left right q =
       front = q.front;
       rest = q.rest ++ right;
       is = ap (λ (cs : List Choice). cs ++ right) q.is ∙ append_assoc q.front q.rest right;
+      some = let some : 1 ≤ length q.rest = q.some in omega (arith, length-append q.rest right);
       puts = q.puts;
       short = omega arith;
     }

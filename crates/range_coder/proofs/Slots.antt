@@ -46,6 +46,7 @@ puts_none table before states after left slot bit state interval inside same is 
   front = [];
   rest = choice slot bit ∷ [];
   is = refl;
+  some = omega arith;
   puts = record { interval = interval; adapts = is ∙ ap (slice_set states slot) same ∙ set_own states slot inside; spare = omega arith };
   short = omega arith;
 }

@@ -10,11 +10,13 @@ pub record Puts (table : List ℕ) (before : Encoding) (states : List ℕ) (afte
   pub adapts : left ≡ states_after table states choices
   pub spare : before.spare ≤ after.spare + length choices
 
--- the same where one of the choices was refused: those before it stand, and there was too little room
+-- the same where one of the choices was refused: those before it stand, it and those after it don't, and there was
+-- too little room
 pub record PutsFront (table : List ℕ) (before : Encoding) (states : List ℕ) (after : Encoding) (left : List ℕ) (choices : List Choice) : Type 0 where
   pub front : List Choice
   pub rest : List Choice
   pub is : choices ≡ front ++ rest
+  pub some : 1 ≤ length rest
   pub puts : Puts table before states after left front
   pub short : before.spare < length choices
 
