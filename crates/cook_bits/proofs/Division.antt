@@ -28,7 +28,7 @@ sum_twice true false true = refl
 sum_twice true true false = refl
 sum_twice true true true = refl
 
-both : {x y : Bool} {xs ys : List Bool} → x ≡ y → xs ≡ ys → x ∷ xs ≡ y ∷ ys
+pub both : {x y : Bool} {xs ys : List Bool} → x ≡ y → xs ≡ ys → x ∷ xs ≡ y ∷ ys
 both p q = cc
 
 pub length-added : (xs row : List Bool) → length (added xs row) ≡ length row

@@ -7,7 +7,7 @@ use Rattle.std.proofs.lemmas.Bool.{le-leb, lt-leb}
 use Rattle.std.proofs.lemmas.List.{append-nil, drop_more, drop_all, take_at, drop_at, take_all, nil_from_length, length-take-le, length-drop, take-append-drop}
 use Rattle.std.proofs.lemmas.List.Concat.{flat_map-append}
 use Rattle.std.proofs.lemmas.Nat.{shr_below, shl_below, pow-add, one_shl}
-use Rattle.cook_bits.specs.Bits.{low_bits, number_of, bits_of, first_bytes, bytes_of, number_taken, bits_left}
+use Rattle.cook_bits.specs.Bits.{AreBytes, low_bits, number_of, bits_of, first_bytes, bytes_of, number_taken, bits_left}
 use Rattle.cook_bits.proofs.Division.{zeros}
 use Rattle.cook_bits.proofs.Numbers.{length-low_bits, number_of-low_bits, low_bits-cat, low_bits-mod, low_bits-split, low_bits_of_zero, low_bits_back}
 
@@ -59,9 +59,19 @@ bits_of-bytes_high_first (suc count) n =
     ∙ sym (low_bits-split 8 (8 * count) n)
     ∙ ap (λ k. low_bits k n) (sym more)
 
-length-bytes_high_first : (count n : ℕ) → length (bytes_high_first count n) ≡ count
+-- they are so many, and bytes
+pub length-bytes_high_first : (count n : ℕ) → length (bytes_high_first count n) ≡ count
 length-bytes_high_first zero n = refl
 length-bytes_high_first (suc count) n = ap suc (length-bytes_high_first count n)
+
+byte_small : (count n : ℕ) → byte_at count n < 256
+byte_small zero n = omega arith
+byte_small (suc count) n = omega arith
+
+pub are_bytes-bytes_high_first : (count n : ℕ) → AreBytes (bytes_high_first count n)
+are_bytes-bytes_high_first zero n i = omega arith
+are_bytes-bytes_high_first (suc count) n zero = byte_small count n
+are_bytes-bytes_high_first (suc count) n (suc i) = are_bytes-bytes_high_first count n i
 
 last_bytes : (more count n : ℕ) → drop more (bytes_high_first (more + count) n) ≡ bytes_high_first count n
 last_bytes zero count n = ap (λ k. bytes_high_first k n) (zero-add count)
@@ -212,9 +222,6 @@ finished bytes held rest bits lt view whole =
     sym (append-nil (bits_of bytes)) ∙ ap (λ row. bits_of bytes ++ row) (sym (ap (λ n. low_bits n rest) none ∙ no_bits rest)) ∙ view
 
 -- ---- bytes and their bits
-
-abbrev AreBytes : List ℕ → Type 0
-AreBytes bytes = (i : ℕ) → get_or bytes i 0 < 256
 
 first_bytes_back : (bytes : List ℕ) → AreBytes bytes → first_bytes (length bytes) (bits_of bytes) ≡ bytes
 unfolding first_bytes

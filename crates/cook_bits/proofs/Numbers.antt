@@ -6,10 +6,7 @@ use Rattle.std.proofs.lemmas.Nat.{mod-pow-add, shr_split, pow_pos, mod_below, xo
 use Rattle.std.proofs.lemmas.Nat.Bits.{bit_at-lt, bit_at-zero, bit_at_xor, bit_at_cat_low, bit_at_cat_high, bit_at_above}
 use Rattle.cook_bits.specs.Bits.{low_bits, number_of}
 use Rattle.cook_bits.specs.Crc.{sum_of, added}
-use Rattle.cook_bits.proofs.Division.{zeros}
-
-both : {x y : Bool} {xs ys : List Bool} → x ≡ y → xs ≡ ys → x ∷ xs ≡ y ∷ ys
-both p q = cc
+use Rattle.cook_bits.proofs.Division.{zeros, both}
 
 pub length-low_bits : (count n : ℕ) → length (low_bits count n) ≡ count
 unfolding low_bits

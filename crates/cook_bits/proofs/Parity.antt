@@ -1,14 +1,14 @@
 -- A CRC behind its bytes.
-use Rattle.std.proofs.Common.{◌≡◌, ℕ, zero, suc, ◌*◌, ◌<◌, Bool, true, List, [], ◌∷◌, ◌++◌, length, refl, sym, ap, ◌∙◌, arith}
-use Rattle.std.specs.Int.{byte_at, bytes_high_first}
-use Rattle.cook_bits.specs.Bits.{low_bits, number_of, bits_of, bytes_of}
+use Rattle.std.proofs.Common.{◌≡◌, ℕ, suc, ◌*◌, Bool, true, List, [], ◌∷◌, ◌++◌, length, refl, sym, ap, ◌∙◌}
+use Rattle.std.specs.Int.{bytes_high_first}
+use Rattle.cook_bits.specs.Bits.{AreBytes, low_bits, number_of, bits_of, bytes_of}
 use Rattle.cook_bits.specs.Crc.{remainder_of, highest_first, crc_of, crc32_high_of}
-use Rattle.cook_bits.specs.Laws.{AreBytes, ParityLeavesZero, OnlyParityLeavesZero}
+use Rattle.cook_bits.specs.Laws.{ParityLeavesZero, OnlyParityLeavesZero}
 use Rattle.cook_bits.proofs.Division.{zeros, length-remainder_of, remainder_of_self, only_remainder}
 use Rattle.cook_bits.proofs.Numbers.{length-low_bits, low_bits_of_zero, number_of-low_bits, low_bits_back}
 use Rattle.cook_bits.proofs.Orders.{IsOrder-highest_first}
 use Rattle.cook_bits.proofs.Checks.{crc_of-append}
-use Rattle.cook_bits.proofs.Fields.{bits_of-bytes_high_first, length-bits_of, bytes_of-bits_of}
+use Rattle.cook_bits.proofs.Fields.{bits_of-bytes_high_first, are_bytes-bytes_high_first, length-bits_of, bytes_of-bits_of}
 
 divisor : List Bool
 divisor = low_bits 32 0x04C1_1DB7
@@ -41,15 +41,6 @@ divisor_ends : divisor ≡ low_bits 31 0x0260_8EDB ++ true ∷ []
 unfolding divisor low_bits
 divisor_ends = refl
 
-byte_small : (count n : ℕ) → byte_at count n < 256
-byte_small zero n = omega arith
-byte_small (suc count) n = omega arith
-
-are_bytes : (count n : ℕ) → AreBytes (bytes_high_first count n)
-are_bytes zero n i = omega arith
-are_bytes (suc count) n zero = byte_small count n
-are_bytes (suc count) n (suc i) = are_bytes count n i
-
 only : (bytes more : List ℕ) → AreBytes more → length more ≡ 4 → crc32_high_of (bytes ++ more) ≡ 0 → more ≡ bytes_high_first 4 (crc32_high_of bytes)
 only bytes more are four none =
     let crc = crc32_high_of bytes in
@@ -67,7 +58,7 @@ only bytes more are four none =
     let same : message ≡ start = only_remainder front start message (length-low_bits 32 crc ∙ sym n) (len_message ∙ sym n) (zero_row ∙ ap zeros (sym n)) in
     sym (bytes_of-bits_of more are)
     ∙ ap bytes_of (same ∙ sym (bits_of-bytes_high_first 4 crc))
-    ∙ bytes_of-bits_of (bytes_high_first 4 crc) (are_bytes 4 crc)
+    ∙ bytes_of-bits_of (bytes_high_first 4 crc) (are_bytes-bytes_high_first 4 crc)
 
 pub only_parity : OnlyParityLeavesZero
 only_parity = only

@@ -1,6 +1,6 @@
 -- Bits in order: a number as its binary digits, and bytes as the bits in them, the highest of each byte first. So are
 -- fields of bits written in FFV1 (RFC 9043, section 2.2) and in FLAC (RFC 9639, section 5).
-use Rattle.std.specs.Prelude.{ℕ, zero, suc, ◌+◌, ◌/◌, ◌^◌, ◌==◌, Bool, nat_le, if◌then◌else◌, List, [], ◌∷◌, length, take, drop, Option, Some, None}
+use Rattle.std.specs.Prelude.{ℕ, zero, suc, ◌+◌, ◌/◌, ◌^◌, ◌<◌, ◌==◌, Bool, nat_le, if◌then◌else◌, List, [], ◌∷◌, length, slice_index, take, drop, Option, Some, None}
 use Rattle.std.specs.Int.{bit_at}
 use Rattle.std.specs.List.{flat_map}
 
@@ -13,6 +13,10 @@ low_bits (suc count) number = (bit_at number count == 1) ∷ low_bits count numb
 unfoldable pub number_of : List Bool → ℕ
 number_of [] = 0
 number_of (bit ∷ bits) = (if bit then 2 ^ length bits else 0) + number_of bits
+
+-- the numbers are bytes
+abbrev pub AreBytes : List ℕ → Type 0
+AreBytes bytes = (i : ℕ) → slice_index bytes i < 256
 
 -- the bits of bytes
 unfoldable pub bits_of : List ℕ → List Bool

@@ -1,13 +1,9 @@
 -- What holds of bits and of checksums.
-use Rattle.std.specs.Prelude.{◌≡◌, ℕ, ◌*◌, ◌%◌, ◌^◌, ◌<◌, Bool, List, [], ◌++◌, length, slice_index, Some, fold}
+use Rattle.std.specs.Prelude.{◌≡◌, ℕ, ◌*◌, ◌%◌, ◌^◌, ◌<◌, Bool, List, [], ◌++◌, length, Some, fold}
 use Rattle.std.specs.Int.{w32, bit_not, bytes_high_first}
 use Rattle.std.specs.List.{concat}
-use Rattle.cook_bits.specs.Bits.{low_bits, bits_of, bytes_of, number_taken, bits_left}
+use Rattle.cook_bits.specs.Bits.{AreBytes, low_bits, bits_of, bytes_of, number_taken, bits_left}
 use Rattle.cook_bits.specs.Crc.{crc32_high_of, ebml_register_after, crc32_ebml_of}
-
--- the numbers are bytes
-abbrev pub AreBytes : List ℕ → Type 0
-AreBytes bytes = (i : ℕ) → slice_index bytes i < 256
 
 -- a field that is written is read, whatever follows it
 abbrev pub WrittenFieldIsRead : Type 0

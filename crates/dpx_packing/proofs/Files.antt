@@ -3,14 +3,15 @@ use Rattle.std.proofs.Common.{◌≡◌, ℕ, zero, suc, ◌+◌, ◌-◌, ◌^�
 use Rattle.std.proofs.lemmas.List.{length-take-le, take-append-drop}
 use Rattle.std.proofs.lemmas.List.Elements.{All-take, All-drop}
 use Rattle.std.proofs.Math.Seq.{take-add}
+use Rattle.cook_bits.specs.Bits.{AreBytes}
 use Rattle.dpx_header.specs.declared.layout_type.Layout.{Layout}
 use Rattle.dpx_header.specs.Layout.{IsWellFormed, image_size, pad_count}
-use Rattle.dpx_header.specs.Laws.{FirstBytesDecide, LayoutsAreFormed, ImagesAreInFiles, InFile, LayoutsAreBounded, HasBounds}
+use Rattle.dpx_header.specs.Laws.{FirstBytesDecide, LayoutsAreFormed, ImagesAreInFiles, InFile, LayoutsAreBounded}
 use Rattle.dpx_packing.specs.FrameParts.{pads_of}
 use Rattle.dpx_packing.specs.Units.{AreBelow}
 use Rattle.dpx_packing.specs.PadForms.{pad_form_of, pads_read}
 use Rattle.dpx_packing.specs.PadLaws.{WrittenPadsAreRead}
-use Rattle.dpx_packing.specs.Laws.{AreBytes, TakesApart, FramesAreTheirParts, head_of, image_in, tail_of}
+use Rattle.dpx_packing.specs.Laws.{TakesApart, FramesAreTheirParts, head_of, image_in, tail_of}
 use Rattle.dpx_packing.proofs.FrameRounds.{are-below, takes-apart}
 
 -- numbers below 256 are bytes

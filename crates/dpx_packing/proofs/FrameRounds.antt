@@ -3,12 +3,13 @@ use Rattle.std.proofs.Common.{◌≡◌, ℕ, ◌+◌, ◌-◌, ◌*◌, ◌^◌
 use Rattle.std.proofs.lemmas.List.{take_at, length-take-le, get_or_default}
 use Rattle.std.proofs.lemmas.List.Elements.{All-take, All-drop}
 use Rattle.std.proofs.Math.Nat.{mul-le-mul_right}
+use Rattle.cook_bits.specs.Bits.{AreBytes}
 use Rattle.dpx_header.specs.declared.layout_type.Layout.{Layout}
 use Rattle.dpx_header.specs.Layout.{IsWellFormed, pads_in_line, image_size, sample_count, pad_count}
 use Rattle.dpx_packing.specs.Blocks.{Form, of_blocks, repeated, EachFits}
 use Rattle.dpx_packing.specs.Units.{unit_of, units_in_line, pad_limit, AreBelow, FitUnit}
 use Rattle.dpx_packing.specs.FrameParts.{spare_of, line_of, frame_of, pads_of_line, samples_of, pads_of, image_of, SamplesFit, PadsFit}
-use Rattle.dpx_packing.specs.Laws.{AreBytes, TakesApart, PutsTogether}
+use Rattle.dpx_packing.specs.Laws.{TakesApart, PutsTogether}
 use Rattle.dpx_packing.proofs.BlockRounds.{All-of_blocks, of_blocks-at}
 use Rattle.dpx_packing.proofs.Rounds.{Rounds, repeated-rounds, with_spare-rounds, front-len}
 use Rattle.dpx_packing.proofs.UnitRounds.{unit-rounds, unit-below, IsBelow}

@@ -1,13 +1,10 @@
 -- What holds of the samples and pads of frames.
-use Rattle.std.specs.Prelude.{◌≡◌, ℕ, ◌+◌, ◌<◌, List, ◌++◌, length, take, drop, slice_index, Ok, Some}
+use Rattle.std.specs.Prelude.{◌≡◌, ℕ, ◌+◌, List, ◌++◌, length, take, drop, Ok, Some}
+use Rattle.cook_bits.specs.Bits.{AreBytes}
 use Rattle.dpx_header.specs.declared.layout_type.Layout.{Layout}
 use Rattle.dpx_header.specs.Layout.{IsWellFormed, image_size, sample_count, pad_count, layout_of}
 use Rattle.dpx_packing.specs.FrameParts.{samples_of, pads_of, image_of, SamplesFit, PadsFit}
 use Rattle.dpx_packing.specs.PadForms.{pad_form_of, pads_read}
-
--- the numbers are bytes
-abbrev pub AreBytes : List ℕ → Type 0
-AreBytes bytes = (i : ℕ) → slice_index bytes i < 256
 
 -- an image's samples and pads: they have the layout's lengths, they fit, and they make the image
 pub record TakesApart (layout : Layout) (image : List ℕ) : Type 0 where

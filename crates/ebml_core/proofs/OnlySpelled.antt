@@ -8,10 +8,11 @@ use Rattle.std.specs.Int.{byte_at, bytes_high_first}
 use Rattle.std.specs.Int.Count.{leading_of_zero}
 use Rattle.byteorder.specs.Endian.{big_number, big_from}
 use Rattle.byteorder.specs.Numbers.{big_from-cons, big_from-lt}
+use Rattle.cook_bits.specs.Bits.{AreBytes}
 use Rattle.ebml_core.specs.declared.parts.Size.{Size}
 use Rattle.ebml_core.specs.Element.{is_vint, IsIdentifier}
 use Rattle.ebml_core.specs.Reading.{width_of, vint_len, id_at, id_of_len, size_at, size_meant, size_of_len}
-use Rattle.ebml_core.specs.Laws.{AreBytes, SpellsVint, SpellsSize}
+use Rattle.ebml_core.specs.Laws.{SpellsVint, SpellsSize}
 use Rattle.ebml_core.proofs.Prefixes.{chosen}
 use Rattle.ebml_core.proofs.Readings.{byte_at-power, first_power, pow_pos256, vint_high, vint_low}
 

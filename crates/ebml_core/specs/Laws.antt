@@ -1,6 +1,7 @@
 -- What holds of elements as they are written and read.
-use Rattle.std.specs.Prelude.{◌≡◌, ℕ, ◌+◌, ◌-◌, ◌*◌, ◌^◌, ◌<◌, ◌≤◌, List, ◌++◌, length, take, drop, slice_index, Some, IsTrue}
+use Rattle.std.specs.Prelude.{◌≡◌, ℕ, ◌+◌, ◌-◌, ◌*◌, ◌^◌, ◌<◌, ◌≤◌, List, ◌++◌, length, take, drop, Some, IsTrue}
 use Rattle.std.specs.Int.{bytes_high_first}
+use Rattle.cook_bits.specs.Bits.{AreBytes}
 use Rattle.ebml_core.specs.declared.parts.Size.{Size}
 use Rattle.ebml_core.specs.declared.parts.Size.TheVariants.{Known}
 use Rattle.ebml_core.specs.declared.parts.Head.{Head}
@@ -21,10 +22,6 @@ SpelledIdIsRead =
 abbrev pub SpelledSizeIsRead : Type 0
 SpelledSizeIsRead =
     (len content : ℕ) (rest : List ℕ) → 1 ≤ len → len ≤ 8 → content < 2 ^ (7 * len) → size_at (bytes_high_first len (2 ^ (7 * len) + content) ++ rest) ≡ Some (size_meant len content, len)
-
--- the numbers are bytes
-abbrev pub AreBytes : List ℕ → Type 0
-AreBytes bytes = (i : ℕ) → slice_index bytes i < 256
 
 -- the bytes begin with a VINT of that many bytes, at most `most`, which spells the number
 pub record SpellsVint (most : ℕ) (bytes : List ℕ) (len number : ℕ) : Type 0 where

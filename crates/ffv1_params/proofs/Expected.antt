@@ -12,9 +12,9 @@ use Rattle.range_coder.specs.Symbol.{fresh_states}
 use Rattle.range_coder.specs.Table.{IsClosed, AreLive}
 use Rattle.range_coder.specs.DefaultTable.{default_one_states}
 use Rattle.range_coder.specs.Laws.{OnStates, CodedAreBytes}
-use Rattle.ffv1_params.specs.Record.{Field, number, single, table, number_choices, bit_choices, run_choices, field_decisions, states_after_field, fields_decisions}
+use Rattle.ffv1_params.specs.Record.{Field, number, single, table, unsigned_choices, bit_choices, run_choices, field_decisions, states_after_field, fields_decisions}
 use Rattle.ffv1_params.specs.Reading as reading
-use Rattle.ffv1_params.specs.Reading.{Place, Reading, after, ◌>>=◌, give, handed_on, symbol, bit, bit_at, runs_of, with_states, start_place}
+use Rattle.ffv1_params.specs.Reading.{Place, Reading, after, ◌>>=◌, give, handed_on, symbol, bit, runs_of, with_states, start_place}
 use Rattle.ffv1_params.proofs.SymbolLaws.{Promises, SymbolPromises, Stands, number_next, bit_next, one_slot, on-append}
 
 -- all that the range coder promises, with what its table and its fresh states are
@@ -33,7 +33,7 @@ slots-append left right l r = record { each = All-append (λ c. c.slot < 32) lef
 run_slots : Given → (runs : List ℕ) → UseSlots 32 (run_choices runs)
 unfolding run_choices
 run_slots given [] = record { each = λ k d lt. absurd (omega arith) }
-run_slots given (run ∷ runs) = subst (UseSlots 32) (sym (flat_map-cons (λ r. number_choices (r - 1)) run runs)) (slots-append (number_choices (run - 1)) (run_choices runs) (given.symbols.slots (pos (run - 1)) false) (run_slots given runs))
+run_slots given (run ∷ runs) = subst (UseSlots 32) (sym (flat_map-cons (λ r. unsigned_choices (r - 1)) run runs)) (slots-append (unsigned_choices (run - 1)) (run_choices runs) (given.symbols.slots (pos (run - 1)) false) (run_slots given runs))
 
 abbrev record_place : List Decision → List ℕ → Place
 record_place decisions states = record { decisions = decisions; states = states }
@@ -42,7 +42,7 @@ record_place decisions states = record { decisions = decisions; states = states 
 
 -- the place after a value
 place_after : Place → Field → Place
-place_after place (number value) = after place (number_choices value)
+place_after place (number value) = after place (unsigned_choices value)
 place_after place (single b) = after place (bit_choices b)
 place_after place (table runs) = record { decisions = place.decisions ++ decided default_one_states fresh_states (run_choices runs); states = place.states }
 
@@ -75,7 +75,7 @@ stands_fresh given bytes place stands = record { are_bytes = stands.are_bytes; o
 
 stands_field : Given → (bytes : List ℕ) (place : Place) (field : Field) → Stands bytes place → Stands bytes (place_after place field)
 unfolding place_after after
-stands_field given bytes place (number value) stands = stands_after given bytes place (number_choices value) (given.symbols.slots (pos value) false) stands
+stands_field given bytes place (number value) stands = stands_after given bytes place (unsigned_choices value) (given.symbols.slots (pos value) false) stands
 stands_field given bytes place (single b) stands = stands_after given bytes place (bit_choices b) (one_slot b) stands
 stands_field given bytes place (table runs) stands =
     let fresh = stands_after given bytes (record_place place.decisions fresh_states) (run_choices runs) (run_slots given runs) (stands_fresh given bytes place stands) in
@@ -86,7 +86,7 @@ on_choices given states choices slots live count = given.promises.on_states defa
 
 on_field : Given → (states : List ℕ) (field : Field) → AreLive default_one_states states → length states ≡ 32 → OnStates (field_decisions states field)
 unfolding field_decisions
-on_field given states (number value) live count = on_choices given states (number_choices value) (given.symbols.slots (pos value) false) live count
+on_field given states (number value) live count = on_choices given states (unsigned_choices value) (given.symbols.slots (pos value) false) live count
 on_field given states (single b) live count = on_choices given states (bit_choices b) (one_slot b) live count
 on_field given states (table runs) live count = on_choices given fresh_states (run_choices runs) (run_slots given runs) given.fresh given.count
 
@@ -180,9 +180,9 @@ runs_read given bytes zero [] q le are stands reads = ap (λ (p : Place). Ok ([]
 runs_read given bytes (suc fuel) [] q le are stands reads = ap (λ (p : Place). Ok ([], p)) (sym (after_none q))
 runs_read given bytes zero (run ∷ runs) q le are stands reads = absurd (omega arith)
 runs_read given bytes (suc fuel) (run ∷ runs) q le are stands reads =
-    let one = number_choices (run - 1) in
+    let one = unsigned_choices (run - 1) in
     let q1 = after q one in
-    let split : run_choices (run ∷ runs) ≡ one ++ run_choices runs = flat_map-cons (λ r. number_choices (r - 1)) run runs in
+    let split : run_choices (run ∷ runs) ≡ one ++ run_choices runs = flat_map-cons (λ r. unsigned_choices (r - 1)) run runs in
     let joined : after q (run_choices (run ∷ runs)) ≡ after q1 (run_choices runs) = ap (after q) split ∙ after_joined given q one (run_choices runs) in
     let all : Reads bytes (after q1 (run_choices runs)).decisions = subst (λ (p : Place). Reads bytes p.decisions) joined reads in
     let stands1 = stands_after given bytes q one (given.symbols.slots (pos (run - 1)) false) stands in

@@ -5,10 +5,11 @@ use Rattle.range_coder.specs.Interval.{Decision, Interval, whole, part, renewed,
 use Rattle.range_coder.specs.Choices.{Choice, adapted, decided}
 use Rattle.range_coder.specs.Symbol.{choice, exponent_up_to, exponent_of, ones, exponent_choices, low_bits, symbol_choices, fresh_states}
 use Rattle.cook_bits.specs.Crc.{crc32_high_of}
+use Rattle.cook_bits.proofs.Fields.{length-bytes_high_first}
 use Rattle.range_coder.specs.DefaultTable.{default_one_states}
 use Rattle.range_coder.specs.Laws.{NarrowedIsJoined}
 use Rattle.ffv1_params.specs.Parameters.{stepped, flat}
-use Rattle.ffv1_params.specs.Record.{Field, number, single, table, number_choices, run_choices, field_decisions, states_after_field, fields_decisions, record_decisions, bit_choices, with_parity, record_of, film_fields}
+use Rattle.ffv1_params.specs.Record.{Field, number, single, table, unsigned_choices, run_choices, field_decisions, states_after_field, fields_decisions, record_decisions, bit_choices, with_parity, record_of, film_fields}
 use Rattle.ffv1_params.specs.Track.{Track, after_field, after_fields}
 
 -- ---- value by value
@@ -49,17 +50,13 @@ unfolding narrowed
 shifts-narrowed i [] = omega arith
 shifts-narrowed i (d ∷ more) = omega (arith, shifts-narrow i d.state d.bit, shifts-narrowed (narrow i d.state d.bit) more)
 
-pub length-high_first : (count n : ℕ) → length (bytes_high_first count n) ≡ count
-length-high_first zero n = refl
-length-high_first (suc count) n = omega (arith, length-high_first count n)
-
 -- coded bytes are at most two more than the decisions
 length-coded : (decisions : List Decision) → length (coded decisions) ≤ length decisions + 2
 unfolding coded ending bytes_in whole
 length-coded decisions =
     let i = narrowed whole decisions in
     let last = narrow i 129 false in
-    omega (arith, length-high_first (last.shifts + 1) ((last.low + 255) / 256), shifts-narrow i 129 false, shifts-narrowed whole decisions)
+    omega (arith, length-bytes_high_first (last.shifts + 1) ((last.low + 255) / 256), shifts-narrow i 129 false, shifts-narrowed whole decisions)
 
 length-decided : (next states : List ℕ) (choices : List Choice) → length (decided next states choices) ≡ length choices
 unfolding decided
@@ -86,7 +83,7 @@ length-low_bits zero magnitude = refl
 length-low_bits (suc count) magnitude = ap suc (length-low_bits count magnitude)
 
 -- a number takes at most 64 decisions
-length-number : (value : ℕ) → length (number_choices value) ≤ 64
+length-number : (value : ℕ) → length (unsigned_choices value) ≤ 64
 unfolding symbol_choices
 length-number value = by (nat_eq value 0)
   where
@@ -117,7 +114,7 @@ most_of (field ∷ more) = most field + most_of more
 
 length-field : (states : List ℕ) (field : Field) → length (field_decisions states field) ≤ most field
 unfolding field_decisions most
-length-field states (number value) = omega (arith, length-decided default_one_states states (number_choices value), length-number value)
+length-field states (number value) = omega (arith, length-decided default_one_states states (unsigned_choices value), length-number value)
 length-field states (single bit) = omega (arith, length-decided default_one_states states (bit_choices bit))
 length-field states (table runs) = omega (arith, length-decided default_one_states fresh_states (run_choices runs))
 
@@ -135,4 +132,4 @@ pub length-film : (bits rows : ℕ) → length (record_of (film_fields bits rows
 unfolding record_of with_parity
 length-film bits rows =
     let front = coded (record_decisions (film_fields bits rows)) in
-    omega (arith, length-append front (bytes_high_first 4 (crc32_high_of front)), length-high_first 4 (crc32_high_of front), length-coded (record_decisions (film_fields bits rows)), length-fields fresh_states (film_fields bits rows), film_short bits rows)
+    omega (arith, length-append front (bytes_high_first 4 (crc32_high_of front)), length-bytes_high_first 4 (crc32_high_of front), length-coded (record_decisions (film_fields bits rows)), length-fields fresh_states (film_fields bits rows), film_short bits rows)

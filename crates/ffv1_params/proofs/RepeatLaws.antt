@@ -6,7 +6,7 @@ use Rattle.ffv1_params.specs.declared.error.ParamsWhy.{ParamsWhy}
 use Rattle.ffv1_params.specs.declared.error.ParamsWhy.TheVariants.{States}
 use Rattle.ffv1_params.specs.Reading.{Place, Reading, ◌>>=◌, give, handed_on, repeated, unset, no_states}
 use Rattle.ffv1_params.specs.Walk.{Walk, Leads, Fails}
-use Rattle.ffv1_params.proofs.WalkLaws.{leads_on, leads_rest, leads_here, fails_now, fails_rest, fails_as, refuses_now, refuses_rest}
+use Rattle.ffv1_params.proofs.WalkLaws.{leads_on, leads_rest, leads_here, fails_now, fails_rest, fails_as}
 
 -- what was read before, and what is still read
 unfoldable pub front_then : {A : Type 0} → List A → Reading (List A) → Reading (List A)

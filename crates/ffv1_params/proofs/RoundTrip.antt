@@ -6,6 +6,7 @@ use Rattle.std.proofs.lemmas.Bool.{le-leb, ne_eqb, eqb-true}
 use Rattle.std.proofs.lemmas.List.{take_at}
 use Rattle.cook_bits.specs.Crc.{crc32_high_of}
 use Rattle.cook_bits.specs.Laws.{ParityLeavesZero}
+use Rattle.cook_bits.proofs.Fields.{length-bytes_high_first}
 use Rattle.range_coder.specs.Interval.{coded}
 use Rattle.range_coder.specs.Laws.{CodedIsRead, CodedAreBytes, CodedBegins, OnStates}
 use Rattle.ffv1_params.specs.declared.error.ParamsWhy.{ParamsWhy}
@@ -14,9 +15,8 @@ use Rattle.ffv1_params.specs.QuantTables.{set_of, context_count}
 use Rattle.ffv1_params.specs.Parameters.{Parameters, AreFilm, is_depth, film_tables, film_params, stepped, flat}
 use Rattle.ffv1_params.specs.Record.{Field, number, single, table, version_fields, colour_fields, grid_fields, set_fields, flag_fields, film_fields, record_decisions, with_parity, record_of}
 use Rattle.ffv1_params.specs.Reading as reading
-use Rattle.ffv1_params.specs.Reading.{Place, Reading, ◌>>=◌, give, refuse, symbol, bit, within, unset, version, depth, colours, grid, repeated, table_set, no_states, flags, parameters, start_place, value_of, before_parity, record_read}
+use Rattle.ffv1_params.specs.Reading.{Place, ◌>>=◌, give, refuse, symbol, bit, within, unset, version, depth, colours, grid, repeated, table_set, no_states, flags, parameters, start_place, value_of, before_parity, record_read}
 use Rattle.ffv1_params.proofs.SetLaws.{film_contexts}
-use Rattle.ffv1_params.proofs.RecordLaws.{length-high_first}
 use Rattle.ffv1_params.proofs.ReadLaws.{read_on}
 use Rattle.ffv1_params.proofs.Expected.{Given, Expects, Gives, CanRun, gives_on, gives_it, gives_number, gives_bit, gives_table, start_stands, on_start}
 
@@ -153,7 +153,7 @@ film_again given coded_read coded_bytes begins cleared params are =
     let fields = film_fields params.bits params.rows in
     let bytes = coded (record_decisions fields) in
     let parity = bytes_high_first 4 (crc32_high_of bytes) in
-    let four : length parity ≡ 4 = length-high_first 4 (crc32_high_of bytes) in
+    let four : length parity ≡ 4 = length-bytes_high_first 4 (crc32_high_of bytes) in
     let on = on_start given coded_bytes fields in
     let front : before_parity (bytes ++ parity) ≡ bytes = parity_apart bytes parity four in
     let long : 4 ≤ length (bytes ++ parity) = omega (arith, length-append bytes parity, four) in

@@ -5,17 +5,18 @@ use mir.Val.{SFits, to_z, of_z}
 use Rattle.std.proofs.lemmas.Bool.{cases_lt, le-leb, lt-ltb, ltb-true, leb-true}
 use Rattle.std.proofs.lemmas.List.{append-nil}
 use Rattle.std.proofs.lemmas.List.Elements.{All-append, All-head, All-tail, All-cons}
+use Rattle.cook_bits.specs.Bits.{AreBytes}
 use Rattle.range_coder.specs.Interval.{Decision, whole, narrowed, first_bytes, Inside, Reads}
 use Rattle.range_coder.specs.Choices.{Choice, adapted, decided, states_after, moved, UseSlots, Part}
 use Rattle.range_coder.specs.Symbol.{symbol_choices, overlong_choices, choice, IsCodable}
 use Rattle.range_coder.specs.Table.{IsState, IsClosed, AreLive}
-use Rattle.range_coder.specs.Reading.{Reader, HasRead, AreBytes}
+use Rattle.range_coder.specs.Reading.{Reader, HasRead}
 use Rattle.range_coder.specs.Coding.{Gets}
 use Rattle.range_coder.specs.DefaultTable.{default_one_states}
 use Rattle.range_coder.specs.Laws.{OnStates, OneMoreIsRead, FrontIsRead, ReadIsInside, NarrowedIsJoined, DecidedIsJoined, StatesAreJoined, ChoicesStayLive, ChoicesAreOnStates, ChoicesKeepCount, SymbolsPart, OverlongParts, SymbolSlots, OverlongSlots}
 use Rattle.std.proofs.lemmas.Int.{ints, to_z-of_z}
 use Rattle.ffv1_params.specs.declared.error.ParamsWhy.TheVariants.{Symbol}
-use Rattle.ffv1_params.specs.Record.{number_choices, bit_choices}
+use Rattle.ffv1_params.specs.Record.{unsigned_choices, bit_choices}
 use Rattle.ffv1_params.specs.Reading.{is_read, Place, after, first_below, found_or, number_at, bit_at, symbol, bit, taken, give}
 use Rattle.ffv1_params.specs.Walk.{Walk, walk_of, IsAt, Leads, Refuses}
 
@@ -191,10 +192,10 @@ moved_none (c ∷ more) =
 alone : (choices : List Choice) → [] ++ (moved 0 choices ++ []) ≡ choices
 alone choices = append-nil (moved 0 choices) ∙ moved_none choices
 
-numbers_part : SymbolPromises → (m n : ℕ) → m < 2 ^ 31 → n < 2 ^ 31 → m ≢ n → Part (number_choices m) (number_choices n)
+numbers_part : SymbolPromises → (m n : ℕ) → m < 2 ^ 31 → n < 2 ^ 31 → m ≢ n → Part (unsigned_choices m) (unsigned_choices n)
 numbers_part promises m n lm ln differ =
     let part = promises.parts 0 false (pos m) (pos n) [] [] [] (codable m lm) (codable n ln) (λ e. differ (pos_same m n e)) in
-    subst (λ (cs : List Choice). Part cs (number_choices n)) (alone (number_choices m)) (subst (λ (cs : List Choice). Part ([] ++ (moved 0 (number_choices m) ++ [])) cs) (alone (number_choices n)) part)
+    subst (λ (cs : List Choice). Part cs (unsigned_choices n)) (alone (unsigned_choices m)) (subst (λ (cs : List Choice). Part ([] ++ (moved 0 (unsigned_choices m) ++ [])) cs) (alone (unsigned_choices n)) part)
   where
     codable : (k : ℕ) → k < 2 ^ 31 → IsCodable (pos k) false
     codable k lt = (omega (arith, ints), lt)
@@ -202,29 +203,29 @@ numbers_part promises m n lm ln differ =
     pos_same : (a b : ℕ) → pos a ≡ pos b → a ≡ b
     pos_same a b e = cc
 
-overlong_part : SymbolPromises → (m : ℕ) → m < 2 ^ 31 → Part (number_choices m) overlong_choices
+overlong_part : SymbolPromises → (m : ℕ) → m < 2 ^ 31 → Part (unsigned_choices m) overlong_choices
 overlong_part promises m lm =
     let part = promises.overlong 0 false (pos m) [] [] [] (omega (arith, ints), lm) in
-    subst (λ (cs : List Choice). Part cs overlong_choices) (alone (number_choices m)) (subst (λ (cs : List Choice). Part ([] ++ (moved 0 (number_choices m) ++ [])) cs) (alone overlong_choices) part)
+    subst (λ (cs : List Choice). Part cs overlong_choices) (alone (unsigned_choices m)) (subst (λ (cs : List Choice). Part ([] ++ (moved 0 (unsigned_choices m) ++ [])) cs) (alone overlong_choices) part)
 
 eq_or_not : (m n : ℕ) → ((m ≢ n) → ⊥) → m ≡ n
 eq_or_not m n wrong = elim (cases_lt m n) [ inl lt ↦ absurd (wrong (λ e. absurd (omega arith))) | inr le ↦ elim (cases_lt n m) [ inl lt ↦ absurd (wrong (λ e. absurd (omega arith))) | inr ge ↦ omega arith ] ]
 
 -- the number that is read next
-pub number_next : Promises → SymbolPromises → (bytes : List ℕ) (place : Place) (n : ℕ) → IsClosed default_one_states → n < 2 ^ 31 → Stands bytes place → Reads bytes (after place (number_choices n)).decisions → symbol bytes place ≡ Ok (n, after place (number_choices n))
+pub number_next : Promises → SymbolPromises → (bytes : List ℕ) (place : Place) (n : ℕ) → IsClosed default_one_states → n < 2 ^ 31 → Stands bytes place → Reads bytes (after place (unsigned_choices n)).decisions → symbol bytes place ≡ Ok (n, after place (unsigned_choices n))
 unfolding symbol number_at
 number_next promises symbols bytes place n closed lt stands reads =
     let slots = symbols.slots (pos n) false in
-    let here = reads_passes bytes (after place (number_choices n)).decisions reads.inside in
-    let only = λ (m : ℕ) (lm : m < 2 ^ 31) (passes : is_read bytes (after place (number_choices m)).decisions ≡ true). eq_or_not m n (λ differ. parts_fails promises bytes place (number_choices n) (number_choices m) closed slots (symbols.slots (pos m) false) stands reads (numbers_part symbols m n lm lt differ) passes) in
-    ap (taken place) (found (2 ^ 31) n (λ m. is_read bytes (after place (number_choices m)).decisions) lt here only)
+    let here = reads_passes bytes (after place (unsigned_choices n)).decisions reads.inside in
+    let only = λ (m : ℕ) (lm : m < 2 ^ 31) (passes : is_read bytes (after place (unsigned_choices m)).decisions ≡ true). eq_or_not m n (λ differ. parts_fails promises bytes place (unsigned_choices n) (unsigned_choices m) closed slots (symbols.slots (pos m) false) stands reads (numbers_part symbols m n lm lt differ) passes) in
+    ap (taken place) (found (2 ^ 31) n (λ m. is_read bytes (after place (unsigned_choices m)).decisions) lt here only)
 
-pub symbol_read : Promises → SymbolPromises → (before after_ : Reader) (states left : List ℕ) (n : ℕ) → IsClosed default_one_states → n < 2 ^ 31 → Gets default_one_states before states after_ left (number_choices n) → Leads (walk_of before states) (walk_of after_ left) symbol (give n)
+pub symbol_read : Promises → SymbolPromises → (before after_ : Reader) (states left : List ℕ) (n : ℕ) → IsClosed default_one_states → n < 2 ^ 31 → Gets default_one_states before states after_ left (unsigned_choices n) → Leads (walk_of before states) (walk_of after_ left) symbol (give n)
 unfolding give
 symbol_read promises symbols before after_ states left n closed lt gets = record {
   leads = λ bytes place is_at.
-      let came = come promises before after_ states left (number_choices n) bytes place closed (symbols.slots (pos n) false) gets is_at in
-      record { place = after place (number_choices n); is_at = came; same = number_next promises symbols bytes place n closed lt (stands_of (walk_of before states) bytes place is_at) (come_reads promises (walk_of after_ left) bytes (after place (number_choices n)) came) };
+      let came = come promises before after_ states left (unsigned_choices n) bytes place closed (symbols.slots (pos n) false) gets is_at in
+      record { place = after place (unsigned_choices n); is_at = came; same = number_next promises symbols bytes place n closed lt (stands_of (walk_of before states) bytes place is_at) (come_reads promises (walk_of after_ left) bytes (after place (unsigned_choices n)) came) };
 }
 
 pub overlong_read : Promises → SymbolPromises → (before after_ : Reader) (states left : List ℕ) → IsClosed default_one_states → Gets default_one_states before states after_ left overlong_choices → Refuses (walk_of before states) symbol Symbol
@@ -233,8 +234,8 @@ overlong_read promises symbols before after_ states left closed gets = record {
   refuses = λ bytes place is_at.
       let came = come promises before after_ states left overlong_choices bytes place closed symbols.overlong_slots gets is_at in
       let reads = come_reads promises (walk_of after_ left) bytes (after place overlong_choices) came in
-      let none = λ (m : ℕ) (lm : m < 2 ^ 31). is_false (is_read bytes (after place (number_choices m)).decisions) (λ passes. parts_fails promises bytes place overlong_choices (number_choices m) closed symbols.overlong_slots (symbols.slots (pos m) false) (stands_of (walk_of before states) bytes place is_at) reads (overlong_part symbols m lm) passes) in
-      ap (taken place) (not_found (2 ^ 31) (λ m. is_read bytes (after place (number_choices m)).decisions) none);
+      let none = λ (m : ℕ) (lm : m < 2 ^ 31). is_false (is_read bytes (after place (unsigned_choices m)).decisions) (λ passes. parts_fails promises bytes place overlong_choices (unsigned_choices m) closed symbols.overlong_slots (symbols.slots (pos m) false) (stands_of (walk_of before states) bytes place is_at) reads (overlong_part symbols m lm) passes) in
+      ap (taken place) (not_found (2 ^ 31) (λ m. is_read bytes (after place (unsigned_choices m)).decisions) none);
 }
 
 -- ---- bits

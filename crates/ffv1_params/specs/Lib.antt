@@ -1,4 +1,5 @@
--- The parameters of FFV1 (RFC 9043, "Parameters") and the record that holds them ("Configuration Record").
+-- The parameters of FFV1 (RFC 9043, section 4.2, "Parameters") and the record that holds them (section 4.3,
+-- "Configuration Record").
 pub mod Laws
 pub mod Parameters
 pub mod QuantTables

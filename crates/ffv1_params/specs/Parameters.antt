@@ -1,4 +1,4 @@
--- The parameters of FFV1 (RFC 9043, "Parameters"), as far as this project reads them, and the parameters of its writer.
+-- The parameters of FFV1 (RFC 9043, section 4.2, "Parameters"), as far as this project reads them, and the parameters of its writer.
 use Rattle.std.specs.Prelude.{◌≡◌, ℕ, ◌+◌, ◌-◌, ◌*◌, ◌/◌, ◌≤◌, ◌==◌, ◌||◌, Bool, true, List, [], ◌∷◌, length, slice_index_or, IsTrue, All}
 use Rattle.range_coder.specs.DefaultTable.{default_one_states}
 use Rattle.ffv1_params.specs.QuantTables.{QuantSet, TellsContexts, set_of}

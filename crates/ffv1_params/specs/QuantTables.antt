@@ -1,5 +1,5 @@
--- Quantization tables (RFC 9043, "Quantization Table Set"): a set has five, and each is given by the lengths of runs
--- of equal values in its first half.
+-- Quantization tables (RFC 9043, section 4.1, "Quantization Table Set"): a set has five, and each is given by the
+-- lengths of runs of equal values in its first half.
 use Rattle.std.specs.Prelude.{◌≡◌, ℕ, suc, ◌+◌, ◌-◌, ◌*◌, ◌/◌, ◌≤◌, ◌<◌, ◌==◌, nat_lt, if◌then◌else◌, List, [], ◌∷◌, ◌++◌, length, map, sum, replicate, slice_index, slice_index_or, ℤ, pos, ◌+ℤ◌, neg_ℤ, unsigned_abs}
 use Rattle.std.specs.List.{range_with_len}
 

@@ -1,6 +1,6 @@
--- The record as it is read (RFC 9043, "Parameters" and "Configuration Record"). What bytes are read as
--- is told by the decisions that they are read as: the next value is the one whose decisions the bytes
--- are read as, behind those so far.
+-- The record as it is read (RFC 9043, section 4.2, "Parameters", and section 4.3, "Configuration Record").
+-- What bytes are read as is told by the decisions that they are read as: the next value is the one whose
+-- decisions the bytes are read as, behind those so far.
 use Rattle.std.specs.Prelude.{ℕ, zero, suc, ◌+◌, ◌-◌, ◌*◌, ◌^◌, ◌==◌, ◌&&◌, ◌||◌, not, Bool, true, nat_lt, nat_le, if◌then◌else◌, List, [], ◌∷◌, ◌++◌, length, take, slice_index, Option, Some, None, Result, Ok, Err}
 use Rattle.cook_bits.specs.Crc.{crc32_high_of}
 use Rattle.range_coder.specs.Interval.{Decision, whole, narrowed, first_bytes}
@@ -11,7 +11,7 @@ use Rattle.ffv1_params.specs.declared.error.ParamsWhy.{ParamsWhy}
 use Rattle.ffv1_params.specs.declared.error.ParamsWhy.TheVariants.{RecordCrc, Start, Symbol, Version, Coder, Colour, Grid, Tables, Contexts, States, Ec}
 use Rattle.ffv1_params.specs.QuantTables.{QuantSet, set_of, context_count}
 use Rattle.ffv1_params.specs.Parameters.{Parameters, is_depth}
-use Rattle.ffv1_params.specs.Record.{number_choices, bit_choices}
+use Rattle.ffv1_params.specs.Record.{unsigned_choices, bit_choices}
 
 -- ---- what bytes are read as
 
@@ -42,7 +42,7 @@ first_below (suc last) passes = found_or (first_below last passes) (if passes la
 
 -- the number that the bytes are read as next; none has an exponent of at most 30 where there is none
 unfoldable pub number_at : List ℕ → Place → Option ℕ
-number_at bytes place = first_below (2 ^ 31) (λ n. is_read bytes (after place (number_choices n)).decisions)
+number_at bytes place = first_below (2 ^ 31) (λ n. is_read bytes (after place (unsigned_choices n)).decisions)
 
 -- the bit that they are read as next
 unfoldable pub bit_at : List ℕ → Place → Bool
@@ -72,7 +72,7 @@ refuse why = λ bytes place. Err why
 
 abbrev pub taken : Place → Option ℕ → Result (ℕ × Place) ParamsWhy
 taken place None = Err Symbol
-taken place (Some n) = Ok (n, after place (number_choices n))
+taken place (Some n) = Ok (n, after place (unsigned_choices n))
 
 -- a number without a sign
 unfoldable pub symbol : Reading ℕ

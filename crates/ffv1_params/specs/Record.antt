@@ -1,5 +1,5 @@
--- The configuration record (RFC 9043, "Parameters" and "Configuration Record"): the values of the
--- parameters, range coded one after another, and a parity behind them.
+-- The configuration record (RFC 9043, section 4.2, "Parameters", and section 4.3, "Configuration Record"):
+-- the values of the parameters, range coded one after another, and a parity behind them.
 use Rattle.std.specs.Prelude.{ℕ, ◌-◌, Bool, true, false, List, [], ◌∷◌, ◌++◌, pos}
 use Rattle.std.specs.List.{flat_map}
 use Rattle.std.specs.Int.{bytes_high_first}
@@ -17,8 +17,8 @@ pub data Field : Type 0 where
   table : List ℕ → Field
 
 -- a number is a symbol without a sign
-abbrev pub number_choices : ℕ → List Choice
-number_choices value = symbol_choices (pos value) false
+abbrev pub unsigned_choices : ℕ → List Choice
+unsigned_choices value = symbol_choices (pos value) false
 
 -- a single bit has the first state of the set
 abbrev pub bit_choices : Bool → List Choice
@@ -26,17 +26,17 @@ bit_choices bit = choice 0 bit ∷ []
 
 -- a table is the lengths of its runs, each less one
 unfoldable pub run_choices : List ℕ → List Choice
-run_choices runs = flat_map (λ run. number_choices (run - 1)) runs
+run_choices runs = flat_map (λ run. unsigned_choices (run - 1)) runs
 
 -- all values share a set of states, but each table has a fresh one
 unfoldable pub field_decisions : List ℕ → Field → List Decision
-field_decisions states (number value) = decided default_one_states states (number_choices value)
+field_decisions states (number value) = decided default_one_states states (unsigned_choices value)
 field_decisions states (single bit) = decided default_one_states states (bit_choices bit)
 field_decisions states (table runs) = decided default_one_states fresh_states (run_choices runs)
 
 -- the shared states after a value
 unfoldable pub states_after_field : List ℕ → Field → List ℕ
-states_after_field states (number value) = states_after default_one_states states (number_choices value)
+states_after_field states (number value) = states_after default_one_states states (unsigned_choices value)
 states_after_field states (single bit) = states_after default_one_states states (bit_choices bit)
 states_after_field states (table runs) = states
 

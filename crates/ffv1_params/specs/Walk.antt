@@ -1,7 +1,8 @@
 -- A reader with the shared states, on its way through a record.
 use Rattle.std.specs.Prelude.{◌≡◌, ℕ, List, length, Result, Ok, Err}
+use Rattle.cook_bits.specs.Bits.{AreBytes}
 use Rattle.range_coder.specs.Interval.{whole, narrowed}
-use Rattle.range_coder.specs.Reading.{Reader, HasRead, AreBytes}
+use Rattle.range_coder.specs.Reading.{Reader, HasRead}
 use Rattle.range_coder.specs.Laws.{OnStates}
 use Rattle.range_coder.specs.Table.{AreLive}
 use Rattle.range_coder.specs.DefaultTable.{default_one_states}

@@ -7,7 +7,7 @@ ghost use Rattle.std.specs.Prelude.{All};
 ghost use Rattle.range_coder.specs.Choices.{chosen};
 ghost use Rattle.range_coder.specs.Table.{IsLive, AreLive};
 ghost use Rattle.range_coder.specs.Coding.{Puts};
-ghost use Rattle.ffv1_params.specs.Record.{number as a_number, single as a_bit, table as a_table, number_choices, run_choices, version_fields, colour_fields, grid_fields, set_fields, flag_fields};
+ghost use Rattle.ffv1_params.specs.Record.{number as a_number, single as a_bit, table as a_table, unsigned_choices, run_choices, version_fields, colour_fields, grid_fields, set_fields, flag_fields};
 ghost use Rattle.ffv1_params.specs.Track.{after_field, after_fields};
 
 use crate::parameters::{FLAT, STEPPED};
@@ -155,7 +155,7 @@ fn put_number(
 ) -> Result<(), NoMemory>
     requires live { AreLive table.now states.old }
     requires few { value < 2 ^ 31 }
-    ensures ok { OnOk result (Puts table.now encoder.old states.old encoder.new states.new (number_choices value)) }
+    ensures ok { OnOk result (Puts table.now encoder.old states.old encoder.new states.new (unsigned_choices value)) }
     ensures live { AreLive table.now states.new }
 {
     put_symbol(encoder, table, states, value as i32, false)

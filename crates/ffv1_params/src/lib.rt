@@ -1,4 +1,5 @@
-//! The parameters of FFV1 and the configuration record that holds them (RFC 9043), written and read.
+//! The parameters of FFV1 and the configuration record that holds them (RFC 9043, sections 4.1 to 4.3), written and
+//! read.
 #![tactic(auto)]
 
 mod error;

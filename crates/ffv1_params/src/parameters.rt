@@ -10,7 +10,7 @@ use range_coder::Table;
 use std::alloc::Global;
 use std::marker::Model;
 
-/// The parameters of a stream of FFV1 frames (RFC 9043, "Parameters").
+/// The parameters of a stream of FFV1 frames (RFC 9043, section 4.2, "Parameters").
 #[derive(Drop)]
 pub struct Params {
     bits: u8,

@@ -1,10 +1,10 @@
 // Quantization tables, filled in from the lengths of their runs.
 
-ghost use Rattle.std.specs.Prelude.{◌≡◌, ℕ, ◌+◌, ◌-◌, ◌*◌, ◌/◌, ◌^◌, ◌<◌, ◌≤◌, ◌++◌, length, replicate, slice_index, vec_len, IfOk, OnOk, OnErr, ℤ, pos, All};
+ghost use Rattle.std.specs.Prelude.{◌≡◌, ℕ, ◌+◌, ◌-◌, ◌*◌, ◌/◌, ◌^◌, ◌<◌, ◌≤◌, ◌++◌, length, replicate, slice_index, IfOk, OnOk, pos, All};
 ghost use Rattle.std.specs.Prelude.{map, unsigned_abs};
 ghost use Rattle.std.specs.Int.{int_rem_euclid};
 ghost use Rattle.std.specs.List.{range_with_len};
-ghost use Rattle.ffv1_params.specs.QuantTables.{steps_of, height, entry, table_of, tables_from, scale_after, context_count, set_of, quant_at, IsTable, TellsContexts, spread};
+ghost use Rattle.ffv1_params.specs.QuantTables.{steps_of, height, entry, table_of, context_count, set_of, quant_at, IsTable, TellsContexts};
 
 use cook_bits::{Bytes, NoMemory};
 use std::alloc::Global;

@@ -13,9 +13,9 @@ use std::alloc::Global;
 /// The bytes of the parity.
 const PARITY: usize = 4;
 
-/// The parameters that a configuration record holds (RFC 9043, "Configuration Record"), or the first rule
-/// that it breaks. Each condition is tested as soon as the values that it names were read, so what stands
-/// behind a value that is refused isn't read.
+/// The parameters that a configuration record holds (RFC 9043, section 4.3, "Configuration Record"), or the
+/// first rule that it breaks. Each condition is tested as soon as the values that it names were read, so what
+/// stands behind a value that is refused isn't read.
 pub fn read(alloc: Global, bytes: &[u8]) -> Result<Params, ParamsWhy>
     ensures { Gives result (record_read bytes.now) }
 {

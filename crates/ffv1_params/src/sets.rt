@@ -30,13 +30,13 @@ pub(crate) fn sets_of(
 {
     let mut sets = Vec::new(alloc);
     for _ in 0..count {
-        sets.push(set_of(alloc, fields)?)?;
+        sets.push(read_set(alloc, fields)?)?;
     }
     Ok(sets)
 }
 
 #[tactic(auto, using(crate::proofs::WalkLaws::walk_laws), unfolding(crate::specs::Reading::table_set, crate::specs::Walk::Fails))]
-fn set_of(alloc: Global, fields: &mut FieldReader<'_>) -> Result<TableSet, ParamsWhy>
+fn read_set(alloc: Global, fields: &mut FieldReader<'_>) -> Result<TableSet, ParamsWhy>
     ensures answers { Answers fields.old fields.new result reading.table_set }
     ensures tell { IfOk result TellsContexts }
 {

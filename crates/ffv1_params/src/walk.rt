@@ -1,11 +1,9 @@
 // The values of a record, read one after another.
 
-ghost use Rattle.std.specs.Prelude.{◌≡◌, ◌*◌, ◌≤◌, ◌<◌, ◌^◌, ℕ, List, length, IfOk, IsTrue};
+ghost use Rattle.std.specs.Prelude.{◌≡◌, ◌*◌, ◌≤◌, ◌<◌, ◌^◌, ℕ, List, IfOk, IsTrue};
 ghost use Rattle.range_coder.specs.Reading.{Begins};
 ghost use Rattle.ffv1_params.specs.Reading.{start_place};
 ghost use Rattle.range_coder.specs.Symbol.{fresh_states};
-ghost use Rattle.range_coder.specs.Table.{IsLive, AreLive};
-ghost use Rattle.range_coder.specs.DefaultTable.{default_one_states};
 ghost use Rattle.ffv1_params.specs.Parameters.{is_depth};
 ghost use Rattle.ffv1_params.specs.QuantTables.{IsTable};
 ghost use Rattle.ffv1_params.specs.Reading as reading;

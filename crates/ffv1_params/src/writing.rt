@@ -8,8 +8,8 @@ use cook_bits::{Bytes, NoMemory, crc32_high};
 use range_coder::laws;
 use std::alloc::Global;
 
-/// The configuration record of the parameters that this project writes (RFC 9043, "Configuration
-/// Record"), whatever their rows. It has at most 1,000 bytes.
+/// The configuration record of the parameters that this project writes (RFC 9043, section 4.3,
+/// "Configuration Record"), whatever their rows. It has at most 1,000 bytes.
 pub fn write(alloc: Global, params: &Params) -> Result<Bytes, NoMemory>
     requires { AreFilm params.now }
     ensures spelled { IfOk result (λ bytes. bytes ≡ record_of (film_fields params.now.bits params.now.rows)) }

@@ -4,7 +4,7 @@ use Rattle.std.proofs.lemmas.List.{length-set, get_or_append_left, get_or-append
 use Rattle.std.proofs.lemmas.List.Elements.{All-head, All-tail}
 use Rattle.range_coder.specs.Interval.{Decision, Interval, whole, narrow, narrowed, Inside, Reads}
 use Rattle.range_coder.specs.Table.{IsLive, IsClosed, AreLive, next_state}
-use Rattle.range_coder.specs.Reading.{AreBytes}
+use Rattle.cook_bits.specs.Bits.{AreBytes}
 use Rattle.range_coder.specs.Choices.{Choice, adapted, states_after, decided, moved, UseSlots, Part}
 use Rattle.range_coder.specs.Laws.{OnStates}
 use Rattle.range_coder.proofs.CodedLaws.{all_left, all_right, states_cons, states_nil, narrowed-append, inside_narrowed, same_bit}

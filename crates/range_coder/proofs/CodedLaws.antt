@@ -3,15 +3,17 @@ use Rattle.std.proofs.Common.{◌≡◌, ◌≢◌, ℕ, zero, suc, ◌+◌, ◌
 use Rattle.std.proofs.Math.Nat.{one-le-pow}
 use Rattle.std.proofs.Math.ListN.{get_or-append}
 use Rattle.std.proofs.lemmas.List.{get_or-append-add}
-use Rattle.std.proofs.lemmas.List.Elements.{All-head, All-tail, All-append, All-cons, All-nil}
+use Rattle.std.proofs.lemmas.List.Elements.{All-head, All-tail, All-cons, All-nil}
 use Rattle.std.proofs.lemmas.Nat.{div_below}
 use Rattle.std.specs.Int.{byte_at, bytes_high_first}
+use Rattle.cook_bits.specs.Bits.{AreBytes}
+use Rattle.cook_bits.proofs.Fields.{length-bytes_high_first, are_bytes-bytes_high_first}
 use Rattle.range_coder.specs.Interval.{Decision, Interval, whole, narrow, narrowed, first_bytes, Inside, Reads, bytes_in, ending, coded}
 use Rattle.range_coder.specs.Table.{IsState}
-use Rattle.range_coder.specs.Reading.{AreBytes, Reader, ReadsOn}
+use Rattle.range_coder.specs.Reading.{Reader, ReadsOn}
 use Rattle.range_coder.specs.Laws.{OnStates, ReadsOneMore}
 use Rattle.range_coder.proofs.Intervals.{IsWide, whole_wide, narrow_wide, inside_narrow, one_narrow, in_part, power_more}
-use Rattle.range_coder.proofs.Numbers.{first_bytes-bytes, first_bytes-past, length-bytes, are_bytes-high_first}
+use Rattle.range_coder.proofs.Numbers.{first_bytes-bytes, first_bytes-past}
 
 -- parts of lists of which each element is so
 pub all_left : {X : Type 0} (P : X → Type 0) (xs ys : List X) → All P (xs ++ ys) → All P xs
@@ -33,9 +35,6 @@ states_tail d more o = record { each = All-tail HasState d more o.each }
 
 pub states_cons : (d : Decision) (more : List Decision) → IsState d.state → OnStates more → OnStates (d ∷ more)
 states_cons d more s o = record { each = All-cons HasState d more s o.each }
-
-pub states_append : (left right : List Decision) → OnStates left → OnStates right → OnStates (left ++ right)
-states_append left right l r = record { each = All-append HasState left right l.each r.each }
 
 pub states_nil : OnStates []
 states_nil = record { each = All-nil HasState }
@@ -122,7 +121,7 @@ bytes_inside i w =
     let power = power_more i.shifts in
     let fits : (i.low + 255) / 256 < 256 ^ (i.shifts + 1) = omega arith in
     let spelled : first_bytes (i.shifts + 1) (bytes_high_first (i.shifts + 1) ((i.low + 255) / 256)) ≡ (i.low + 255) / 256 = first_bytes-bytes (i.shifts + 1) ((i.low + 255) / 256) fits in
-    let past : first_bytes (i.shifts + 1 + 1) (bytes_high_first (i.shifts + 1) ((i.low + 255) / 256)) ≡ first_bytes (i.shifts + 1) (bytes_high_first (i.shifts + 1) ((i.low + 255) / 256)) * 256 = first_bytes-past (i.shifts + 1) (bytes_high_first (i.shifts + 1) ((i.low + 255) / 256)) (length-bytes (i.shifts + 1) ((i.low + 255) / 256)) in
+    let past : first_bytes (i.shifts + 1 + 1) (bytes_high_first (i.shifts + 1) ((i.low + 255) / 256)) ≡ first_bytes (i.shifts + 1) (bytes_high_first (i.shifts + 1) ((i.low + 255) / 256)) * 256 = first_bytes-past (i.shifts + 1) (bytes_high_first (i.shifts + 1) ((i.low + 255) / 256)) (length-bytes_high_first (i.shifts + 1) ((i.low + 255) / 256)) in
     let e : i.shifts + 2 ≡ i.shifts + 1 + 1 = omega arith in
     record { above = rw (e, past, spelled) (omega arith); below = rw (e, past, spelled) (omega arith) }
 
@@ -135,7 +134,7 @@ ending_wide i w = narrow_wide i 129 false w sentinel_is_state
 pub are_bytes-ending : (i : Interval) → AreBytes (ending i)
 unfolding ending bytes_in
 are_bytes-ending i =
-    are_bytes-high_first ((narrow i 129 false).shifts + 1) (((narrow i 129 false).low + 255) / 256)
+    are_bytes-bytes_high_first ((narrow i 129 false).shifts + 1) (((narrow i 129 false).low + 255) / 256)
 
 pub coded_are_bytes : (decisions : List Decision) → AreBytes (coded decisions)
 unfolding coded
@@ -169,7 +168,7 @@ begins_below i w = first_of_bytes i.shifts ((i.low + 255) / 256) (ends_below i w
 
 length_of_bytes : (i : Interval) → length (bytes_in i) ≡ i.shifts + 1
 unfolding bytes_in
-length_of_bytes i = length-bytes (i.shifts + 1) ((i.low + 255) / 256)
+length_of_bytes i = length-bytes_high_first (i.shifts + 1) ((i.low + 255) / 256)
 
 pub coded_begins : (decisions : List Decision) → OnStates decisions → (1 ≤ length (coded decisions)) × (slice_index (coded decisions) 0 ≢ 255)
 unfolding coded ending

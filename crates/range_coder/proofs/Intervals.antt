@@ -5,7 +5,7 @@ use Rattle.std.proofs.lemmas.Bool.{lt-ltb, le-ltb, cases_lt}
 use Rattle.std.proofs.lemmas.Nat.{le-div, div_below}
 use Rattle.range_coder.specs.Interval.{Interval, whole, part_of_one, part, renewed, narrow, first_bytes, Inside}
 use Rattle.range_coder.specs.Table.{IsState}
-use Rattle.range_coder.specs.Reading.{AreBytes}
+use Rattle.cook_bits.specs.Bits.{AreBytes}
 
 -- neither bit has nothing of a range
 pub record HasTwoParts (range ones : ℕ) : Type 0 where
@@ -98,7 +98,7 @@ first_more n bytes = let e : n + 1 + 2 ≡ suc (n + 2) = omega arith in rw e ref
 -- a byte more names a number in what it renews exactly where the bytes before it do
 pub inside_renewed : (bytes : List ℕ) (i : Interval) → AreBytes bytes → Inside bytes i → Inside bytes (renewed i)
 inside_renewed bytes i are inside =
-    let byte : slice_index bytes (i.shifts + 2) < 256 = are.each (i.shifts + 2) in
+    let byte : slice_index bytes (i.shifts + 2) < 256 = are (i.shifts + 2) in
     let more = first_more i.shifts bytes in
     let above : i.low ≤ first_bytes (i.shifts + 2) bytes = inside.above in
     let below : first_bytes (i.shifts + 2) bytes < i.low + i.range = inside.below in
@@ -106,7 +106,7 @@ inside_renewed bytes i are inside =
 
 pub inside_with_byte : (bytes : List ℕ) (i : Interval) → AreBytes bytes → Inside bytes (with_byte i) → Inside bytes i
 inside_with_byte bytes i are inside =
-    let byte : slice_index bytes (i.shifts + 2) < 256 = are.each (i.shifts + 2) in
+    let byte : slice_index bytes (i.shifts + 2) < 256 = are (i.shifts + 2) in
     let more = first_more i.shifts bytes in
     let above : i.low * 256 ≤ first_bytes (i.shifts + 1 + 2) bytes = inside.above in
     let below : first_bytes (i.shifts + 1 + 2) bytes < i.low * 256 + i.range * 256 = inside.below in

@@ -1,14 +1,14 @@
 -- The number that the first bytes of a list spell.
 use Rattle.std.proofs.Common.{◌≡◌, ℕ, zero, suc, ◌+◌, ◌-◌, ◌*◌, ◌/◌, ◌%◌, ◌^◌, ◌<◌, ◌≤◌, List, [], ◌∷◌, ◌++◌, length, take, slice_index, slice_set, refl, sym, ap, ◌∙◌, arith, inl, inr}
-use Rattle.std.proofs.Math.Nat.{pow-suc, div-div-eq-div-mul, mod-lt}
+use Rattle.std.proofs.Math.Nat.{pow-suc, div-div-eq-div-mul}
 use Rattle.std.proofs.Math.ListN.{get_or-append}
 use Rattle.std.proofs.Math.Seq.{take-suc}
 use Rattle.std.proofs.lemmas.List.{get_or_at, get_or_past, get_or-take, take_all, length-take-le, get_or-set_same, get_or-set_other}
 use Rattle.std.proofs.lemmas.Bool.{cases_lt}
 use Rattle.std.proofs.lemmas.Nat.{div_below}
 use Rattle.std.specs.Int.{byte_at, bytes_high_first}
+use Rattle.cook_bits.proofs.Fields.{length-bytes_high_first}
 use Rattle.range_coder.specs.Interval.{first_bytes}
-use Rattle.range_coder.specs.Reading.{AreBytes}
 
 -- the bytes before a place tell it alone
 pub first_bytes-same : (n : ℕ) (xs ys : List ℕ) → ((k : ℕ) → k < n → slice_index xs k ≡ slice_index ys k) → first_bytes n xs ≡ first_bytes n ys
@@ -52,10 +52,6 @@ bytes-push zero x = refl
 bytes-push (suc n) x =
     ap (λ (b : ℕ). b ∷ bytes_high_first (suc n) x) (byte_at-more n x) ∙ ap (λ (bs : List ℕ). byte_at n (x / 256) ∷ bs) (bytes-push n x)
 
-pub length-bytes : (n x : ℕ) → length (bytes_high_first n x) ≡ n
-length-bytes zero x = refl
-length-bytes (suc n) x = let e = length-bytes n x in omega (arith, e)
-
 -- the number that the bytes of a number spell
 pub first_bytes-bytes : (n x : ℕ) → x < 256 ^ n → first_bytes n (bytes_high_first n x) ≡ x
 unfolding first_bytes
@@ -64,19 +60,9 @@ first_bytes-bytes (suc n) x h =
     let power : 256 ^ suc n ≡ 256 ^ n * 256 = pow-suc 256 n in
     let small : x / 256 < 256 ^ n = div_below x 256 (256 ^ n) (omega arith) (omega arith) in
     let spelled = first_bytes-bytes n (x / 256) small in
-    let pushed = first_bytes-push n (bytes_high_first n (x / 256)) (x % 256) (length-bytes n (x / 256)) in
+    let pushed = first_bytes-push n (bytes_high_first n (x / 256)) (x % 256) (length-bytes_high_first n (x / 256)) in
     let e : n + 1 ≡ suc n = omega arith in
     ap (first_bytes (suc n)) (bytes-push n x) ∙ ap (λ (m : ℕ). first_bytes m (bytes_high_first n (x / 256) ++ (x % 256) ∷ [])) (sym e) ∙ pushed ∙ omega (arith, spelled)
-
--- each byte of a number is a byte
-byte_at-lt : (k x : ℕ) → byte_at k x < 256
-byte_at-lt zero x = mod-lt x {m = 256} (omega arith)
-byte_at-lt (suc k) x = mod-lt (x / 256 ^ suc k) {m = 256} (omega arith)
-
-byte_of_number : (n x k : ℕ) → slice_index (bytes_high_first n x) k < 256
-byte_of_number zero x k = omega arith
-byte_of_number (suc n) x zero = byte_at-lt n x
-byte_of_number (suc n) x (suc k) = byte_of_number n x k
 
 byte_of_front : (n : ℕ) (xs : List ℕ) (k : ℕ) → length (take n xs) ≡ n → ((j : ℕ) → slice_index xs j < 256) → slice_index (take n xs) k < 256
 byte_of_front n xs k len are = elim (cases_lt k n) [
@@ -120,6 +106,3 @@ first_bytes-set (suc n) xs k y h len = elim (cases_lt k n) [
       let none : suc n - 1 - k ≡ 0 = omega arith in
       rw (none, front, ← e, last) (omega arith)
 ]
-
-pub are_bytes-high_first : (n x : ℕ) → AreBytes (bytes_high_first n x)
-are_bytes-high_first n x = record { each = byte_of_number n x }

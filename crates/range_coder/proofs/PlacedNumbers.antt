@@ -4,7 +4,7 @@ use Rattle.std.proofs.lemmas.Bool.{cases_eq}
 use Rattle.std.specs.Prelude.{ℤ, pos, negsuc, unsigned_abs}
 use Rattle.range_coder.specs.Interval.{Reads}
 use Rattle.range_coder.specs.Table.{IsClosed, AreLive}
-use Rattle.range_coder.specs.Reading.{AreBytes}
+use Rattle.cook_bits.specs.Bits.{AreBytes}
 use Rattle.range_coder.specs.Choices.{Choice, moved, decided, UseSlots, Part}
 use Rattle.range_coder.specs.Symbol.{AreCodable, symbol_choices, placed_choices}
 use Rattle.range_coder.proofs.ChoiceLaws.{parted_are_not_both_read}

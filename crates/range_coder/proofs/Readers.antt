@@ -84,7 +84,7 @@ begins_with bytes rest rest' high low are is_high is_rest is_low is_rest' not_la
     let second : slice_index rest 0 ≡ slice_index bytes 1 = is_rest 0 in
     let l : low < 256 = subst (λ (n : ℕ). n < 256) (sym (is_low ∙ second)) (are 1) in
     record {
-      are_bytes = record { each = are };
+      are_bytes = are;
       has_read = record {
         range = refl;
         number = rw (is_high, is_low, second) (omega arith);

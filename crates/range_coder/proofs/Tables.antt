@@ -2,7 +2,6 @@
 use Rattle.std.proofs.Common.{◌≡◌, ℕ, zero, suc, ◌-◌, ◌<◌, ◌≤◌, List, Bool, true, false, ◌&&◌, cond, eqb, leb, slice_index, refl, sym, ap, ◌∙◌, subst, arith, inl, inr}
 use Rattle.std.proofs.lemmas.Bool.{leb-true, le-leb, eqb-true, and_parts, and_from, cases_eq}
 use Rattle.range_coder.specs.Table.{IsState, IsLive, IsClosed, one_state, zero_state, next_state}
-use Rattle.range_coder.specs.DefaultTable.{default_one_states}
 use Rattle.range_coder.specs.TableFields.{IsTable}
 
 -- whether the test passes at each number below n
@@ -96,14 +95,6 @@ live_between table h state low high =
     let passed = passes_at (is_live_between table) 256 state h (omega arith) in
     let within = and_from (leb 8 state) (leb state 248) (le-leb 8 state low) (le-leb state 248 high) in
     live_from table state (subst (λ (b : Bool). cond b (is_live table state) true ≡ true) within passed)
-
-pub default_closed : IsClosed default_one_states
-unfolding default_one_states
-default_closed = closed_by_test default_one_states refl
-
-pub default_live : (state : ℕ) → 8 ≤ state → state ≤ 248 → IsLive default_one_states state
-unfolding default_one_states
-default_live = live_between default_one_states refl
 
 -- what the two tables in the fields tell
 pub next_by_ones : (ones table : List ℕ) (slot state : ℕ) (bit : Bool) → ones ≡ table → slot ≡ state → bit ≡ true → slice_index ones slot ≡ next_state table state bit

@@ -1,8 +1,9 @@
 -- What holds of coded bytes and of reading them.
 use Rattle.std.specs.Prelude.{◌≡◌, ◌≢◌, ℕ, ◌≤◌, Bool, List, [], ◌∷◌, ◌++◌, length, slice_index, All, ℤ}
+use Rattle.cook_bits.specs.Bits.{AreBytes}
 use Rattle.range_coder.specs.Interval.{Decision, Interval, narrowed, Inside, Reads, coded}
 use Rattle.range_coder.specs.Table.{IsState, IsClosed, AreLive}
-use Rattle.range_coder.specs.Reading.{Reader, HasRead, ReadsOn, AreBytes}
+use Rattle.range_coder.specs.Reading.{Reader, HasRead, ReadsOn}
 use Rattle.range_coder.specs.Choices.{Choice, states_after, decided, moved, UseSlots, Part}
 use Rattle.range_coder.specs.Encoding.{Encoding}
 use Rattle.range_coder.specs.Coding.{Puts, Gets}

@@ -1,6 +1,7 @@
 -- A reader of bytes within a range: how far the number that they name stands above the low end of the
 -- interval, and the bytes that are left.
 use Rattle.std.specs.Prelude.{◌≡◌, ℕ, ◌+◌, ◌<◌, List, slice_index}
+use Rattle.cook_bits.specs.Bits.{AreBytes}
 use Rattle.range_coder.specs.Interval.{Decision, Interval, whole, first_bytes, narrowed}
 
 pub record Reader : Type 0 where
@@ -19,10 +20,6 @@ pub record HasRead (reader : Reader) (bytes : List ℕ) (i : Interval) : Type 0 
 -- been read of them before
 pub record ReadsOn (before after : Reader) (decisions : List Decision) : Type 0 where
   pub reads : (bytes : List ℕ) (i : Interval) → HasRead before bytes i → HasRead after bytes (narrowed i decisions)
-
--- the numbers are bytes
-pub record AreBytes (bytes : List ℕ) : Type 0 where
-  pub each : (k : ℕ) → slice_index bytes k < 256
 
 -- a reader of these bytes at their start
 pub record Begins (reader : Reader) (bytes : List ℕ) : Type 0 where

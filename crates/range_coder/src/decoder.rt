@@ -1,5 +1,5 @@
 ghost use Rattle.std.specs.Prelude.{◌≡◌, ℕ, ◌+◌, ◌-◌, ◌<◌, ◌≤◌, ◌↔◌, [], ◌∷◌, nat_le, if◌then◌else◌, slice_index, IsNone, IfSome};
-ghost use Rattle.range_coder.specs.Interval.{part_of_one, Decision};
+ghost use Rattle.range_coder.specs.Interval.{part_of_one};
 ghost use Rattle.range_coder.specs.Reading.{Begins, ReadsOn};
 ghost use Rattle.range_coder.specs.Table.{IsState, IsLive, IsClosed, next_state};
 

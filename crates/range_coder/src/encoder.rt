@@ -1,5 +1,5 @@
-ghost use Rattle.std.specs.Prelude.{◌≡◌, ◌+◌, ◌-◌, ◌*◌, ◌^◌, ◌<◌, ◌≤◌, Bool, if◌then◌else◌, length, IfOk, OnOk, OnErr};
-ghost use Rattle.range_coder.specs.Interval.{whole, part_of_one, narrow, ending, first_bytes};
+ghost use Rattle.std.specs.Prelude.{◌≡◌, ◌+◌, ◌-◌, ◌*◌, ◌^◌, ◌<◌, ◌≤◌, if◌then◌else◌, IfOk, OnOk, OnErr};
+ghost use Rattle.range_coder.specs.Interval.{whole, part_of_one, narrow, ending};
 ghost use Rattle.range_coder.specs.Table.{IsState, IsLive, IsClosed, next_state};
 
 use crate::Table;
@@ -28,7 +28,7 @@ impl Model for Encoder {
 }
 
 impl Encoder {
-    /// Nothing is coded yet. It takes no memory until bits are put.
+    /// Nothing is coded yet. It takes no memory; [`Encoder::reserve`] and [`Encoder::put`] do.
     pub fn new(alloc: Global) -> Encoder
         ensures { result.interval ≡ whole }
     {

@@ -22,7 +22,8 @@ impl Model for States {
 }
 
 impl States {
-    /// The states before any number (RFC 9043, section 3.8.1.3): 128 in each. It takes no memory.
+    /// The states before any number: 128 in each, as where no initial states are coded (RFC 9043, section 4.2,
+    /// "Parameters", `states_coded`). It takes no memory.
     pub fn fresh() -> States
         ensures states { result ≡ fresh_states }
         ensures count { length result ≡ 32 }

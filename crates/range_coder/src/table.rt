@@ -1,4 +1,4 @@
-ghost use Rattle.std.specs.Prelude.{◌≡◌, ◌^◌, ◌↔◌, ℕ, ◌≤◌, IsTrue, length};
+ghost use Rattle.std.specs.Prelude.{◌≡◌, ◌^◌, ◌↔◌, ℕ, ◌≤◌, IsTrue};
 ghost use Rattle.range_coder.specs.Table.{IsLive, IsClosed, next_state};
 ghost use Rattle.range_coder.specs.DefaultTable.{default_one_states};
 

@@ -5,7 +5,7 @@ use Rattle.ffv1_params.specs.Reading.{give, table_set}
 use Rattle.ffv1_params.specs.Walk.{Leads}
 use Rattle.ffv1_params.proofs.ValueLaws.{set_refused, set_given}
 use Rattle.ffv1_params.proofs.WalkLaws.{fails}
-use Rattle.ffv1_params.proofs.sets.set_of.Goals as goal
+use Rattle.ffv1_params.proofs.sets.read_set.Goals as goal
 
 pub returns-then-contexts_of-gt-MOST_CONTEXTS-clause-answers : goal.returns-then-contexts_of-gt-MOST_CONTEXTS-clause-answers
 returns-then-contexts_of-gt-MOST_CONTEXTS-clause-answers c =
