@@ -1,7 +1,8 @@
 use super::*;
 use std::test::Fail;
 
-// Records with a right parity, made apart from this program. Each breaks one rule first.
+// Records made apart from this program. Each breaks one rule first. All have a right parity but the first two: the
+// parity of one is wrong, and the other is too short to have one.
 const REFUSED: [(ParamsWhy, &[u8]); 21] = [
     (
         ParamsWhy::RecordCrc,
@@ -195,4 +196,27 @@ fn each_rule_refuses_a_record(rt: HostRuntime) {
             Err(refused) => assert_eq!(rt; refused, why),
         }
     }
+}
+
+#[test]
+fn each_rule_has_its_text(rt: HostRuntime) -> Result<(), Fail> {
+    let texts = [
+        (ParamsWhy::RecordCrc, "bad CRC"),
+        (ParamsWhy::Start, "bad start"),
+        (ParamsWhy::Symbol, "bad symbol"),
+        (ParamsWhy::Version, "other version"),
+        (ParamsWhy::Coder, "other coder"),
+        (ParamsWhy::Colour, "other colours"),
+        (ParamsWhy::Grid, "too many slices"),
+        (ParamsWhy::Tables, "bad quantization tables"),
+        (ParamsWhy::Contexts, "too many contexts"),
+        (ParamsWhy::States, "initial states"),
+        (ParamsWhy::Ec, "bad flags"),
+        (ParamsWhy::NoMemory, "no memory"),
+    ];
+    for (why, text) in texts {
+        let shown = format!(in rt.alloc(); "{why}")?;
+        assert_eq!(rt; shown.as_str(), text);
+    }
+    Ok(())
 }
