@@ -28,7 +28,7 @@ impl Model for Encoder {
 }
 
 impl Encoder {
-    /// Nothing is coded yet. It takes no memory; [`Encoder::reserve`] and [`Encoder::put`] do.
+    /// Nothing is coded yet. It takes no memory; [`Encoder::reserve`], [`Encoder::put`] and [`Encoder::finish`] may.
     pub fn new(alloc: Global) -> Encoder
         ensures { result.interval ≡ whole }
     {
