@@ -1,7 +1,7 @@
 -- What a header that breaks no rule says of its layout.
 use Rattle.std.proofs.Common.{◌≡◌, ℕ, ◌+◌, ◌*◌, ◌≤◌, Bool, true, false, cond, List, [], ◌∷◌, ◌++◌, Option, Some, None, Ok, refl, ◌∙◌, arith, ◌&&◌}
 use Rattle.std.specs.Prelude.{nat_le}
-use Rattle.std.proofs.lemmas.Bool.{leb-true}
+use Rattle.std.proofs.lemmas.Bool.{and_parts, leb-true}
 use Rattle.std.proofs.lemmas.Bool.Decides.{nat_tests}
 use Rattle.dpx_header.specs.declared.layout_type.Layout.{Layout}
 use Rattle.dpx_header.specs.declared.why.DpxWhy.{DpxWhy}
@@ -78,14 +78,6 @@ image-within : (test : Bool) (line : ℕ) (h : Header) (len : ℕ) → fits (ali
 image-within true line h len e room = leb-true _ _ e
 image-within false line h len e room = leb-true _ _ room
 
-and-left : (a b : Bool) → (a && b) ≡ true → a ≡ true
-and-left true b e = refl
-and-left false b e = e
-
-and-right : (a b : Bool) → (a && b) ≡ true → b ≡ true
-and-right true b e = e
-and-right false b e = absurd (cc)
-
 record IsSize (width height : ℕ) : Type 0 where
   pub width_low : 1 ≤ width
   pub width_high : width ≤ 16384
@@ -95,15 +87,15 @@ record IsSize (width height : ℕ) : Type 0 where
 
 size_of : (width height : ℕ) → is_size width height ≡ true → IsSize width height
 size_of width height e4 =
-    let e3 = and-left _ _ e4 in
-    let e2 = and-left _ _ e3 in
-    let e1 = and-left _ _ e2 in
+    let e3 = (and_parts _ _ e4).0 in
+    let e2 = (and_parts _ _ e3).0 in
+    let e1 = (and_parts _ _ e2).0 in
     record {
-      width_low = leb-true _ _ (and-left _ _ e1);
-      width_high = leb-true _ _ (and-right _ _ e1);
-      height_low = leb-true _ _ (and-right _ _ e2);
-      height_high = leb-true _ _ (and-right _ _ e3);
-      pixels = leb-true _ _ (and-right _ _ e4);
+      width_low = leb-true _ _ (and_parts _ _ e1).0;
+      width_high = leb-true _ _ (and_parts _ _ e1).1;
+      height_low = leb-true _ _ (and_parts _ _ e2).1;
+      height_high = leb-true _ _ (and_parts _ _ e3).1;
+      pixels = leb-true _ _ (and_parts _ _ e4).1;
     }
 
 formed_from : (h : Header) (len : ℕ) → Holds h len → IsWellFormed (layout_from h len)
@@ -129,7 +121,7 @@ in_file head len layout e =
     let f = found head len layout e in
     let h : Header = header_of head in
     rw f.is (record {
-      after_header = leb-true _ _ (and-left _ _ f.holds.offset);
+      after_header = leb-true _ _ (and_parts _ _ f.holds.offset).0;
       whole = image-within (fits (aligned (line_len (header_of head).depth (header_of head).width)) (header_of head) len) (line_len (header_of head).depth (header_of head).width) (header_of head) len refl f.holds.room;
     })
 

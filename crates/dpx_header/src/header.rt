@@ -5,7 +5,8 @@ ghost use Rattle.dpx_header.specs.Header.{number_at, has_magic, header_at, heade
 
 use byteorder::{BigEndian, ByteOrder, LittleEndian};
 
-/// The length in bytes of the file, image, orientation, film and television headers together.
+/// The length in bytes of the generic header (SMPTE 268M): the file information header (768 bytes), the
+/// image information header (640) and the image orientation header (256).
 pub const HEADER_LEN: usize = 1664;
 
 // `SDPX`

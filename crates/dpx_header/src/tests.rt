@@ -64,13 +64,47 @@ fn with_u32(big: bool, place: usize, value: u32) -> Result<Layout, DpxWhy>
 
 // The layout of that header with lines of this stride.
 fn laid(big: bool, stride: u32) -> Layout {
+    laid_at(big, 16, stride)
+}
+
+// And at so many bits.
+fn laid_at(big: bool, bits: u8, stride: u32) -> Layout {
     Layout {
         big,
-        bits: 16,
+        bits,
         width: 1,
         height: 1,
         head_len: 2048,
         stride,
+    }
+}
+
+// Bits and packing, and how many bytes a line of one pixel has: without and with those that round it up
+// to a multiple of 4.
+#[rattlefmt::skip]
+const LINES: [(u8, u16, u32, u32); 6] = [
+    (8, 0, 3, 4),
+    (8, 1, 3, 4),
+    (10, 1, 4, 4),
+    (12, 1, 6, 8),
+    (16, 0, 6, 8),
+    (16, 1, 6, 8),
+];
+
+#[test]
+fn each_depth_has_its_line(rt: HostRuntime) {
+    for big in [true, false] {
+        for (bits, packing, line, aligned) in LINES {
+            let mut head = header(big);
+            head[803] = bits;
+            put_u16(big, &mut head, 804, packing);
+            let short = layout(&head, 2047 + u64::from(line));
+            assert_eq!(rt; short, Err(DpxWhy::Truncated), "{bits} {packing}");
+            let tight = layout(&head, 2048 + u64::from(line));
+            assert_eq!(rt; tight, Ok(laid_at(big, bits, line)), "{bits} {packing}");
+            let wide = layout(&head, 2048 + u64::from(aligned));
+            assert_eq!(rt; wide, Ok(laid_at(big, bits, aligned)), "{bits} {packing}");
+        }
     }
 }
 
@@ -109,6 +143,11 @@ fn each_broken_rule_is_told(rt: HostRuntime) {
             Err(DpxWhy::Packing),
             "packed 10 bits"
         );
+        assert_eq!(rt;
+            with_u8(big, 803, 12),
+            Err(DpxWhy::Packing),
+            "packed 12 bits"
+        );
         assert_eq!(rt; with_u16(big, 806, 1), Err(DpxWhy::Encoding));
         assert_eq!(rt; with_u32(big, 812, 4), Err(DpxWhy::LinePadding));
         assert_eq!(rt; with_u32(big, 776, 2), Err(DpxWhy::Truncated));
@@ -127,16 +166,40 @@ fn undefined_fields_and_method_a_are_taken(rt: HostRuntime) {
 // 16,384 by 4,096 pixels are the most.
 #[test]
 fn the_largest_frame_is_taken(rt: HostRuntime) {
-    let mut head = header(true);
-    put_u32(true, &mut head, 772, 16384);
-    put_u32(true, &mut head, 776, 4096);
-    let largest = Layout {
-        width: 16384,
-        height: 4096,
-        stride: 98304,
-        ..laid(true, 0)
-    };
-    assert_eq!(rt; layout(&head, 2048 + 98304 * 4096), Ok(largest));
-    put_u32(true, &mut head, 776, 4097);
-    assert_eq!(rt; layout(&head, 2048 + 98304 * 4097), Err(DpxWhy::Size));
+    for big in [true, false] {
+        let mut head = header(big);
+        put_u32(big, &mut head, 772, 16384);
+        put_u32(big, &mut head, 776, 4096);
+        let largest = Layout {
+            width: 16384,
+            height: 4096,
+            stride: 98304,
+            ..laid(big, 0)
+        };
+        assert_eq!(rt; layout(&head, 2048 + 98304 * 4096), Ok(largest));
+        put_u32(big, &mut head, 776, 4097);
+        assert_eq!(rt; layout(&head, 2048 + 98304 * 4097), Err(DpxWhy::Size));
+    }
+}
+
+#[test]
+fn each_rule_has_its_text(rt: HostRuntime) -> Result<(), Fail> {
+    let texts = [
+        (DpxWhy::Short, "Short"),
+        (DpxWhy::Magic, "Magic"),
+        (DpxWhy::Offset, "Offset"),
+        (DpxWhy::Elements, "Elements"),
+        (DpxWhy::Size, "Size"),
+        (DpxWhy::Descriptor, "Descriptor"),
+        (DpxWhy::Depth, "Depth"),
+        (DpxWhy::Packing, "Packing"),
+        (DpxWhy::Encoding, "Encoding"),
+        (DpxWhy::LinePadding, "LinePadding"),
+        (DpxWhy::Truncated, "Truncated"),
+    ];
+    for (why, text) in texts {
+        let told = format!(in rt.alloc(); "{why}")?;
+        assert_eq!(rt; told.as_str(), text);
+    }
+    Ok(())
 }
