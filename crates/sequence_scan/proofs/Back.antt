@@ -1,10 +1,10 @@
 -- Steps from a frame to its predecessor, in a listing in order.
-use Rattle.std.proofs.Common.{◌≡◌, ℕ, zero, suc, ◌+◌, ◌-◌, ◌<◌, ◌≤◌, Bool, true, false, ◌&&◌, cond, List, [], length, get_or, position, Option, Some, None, is_none, nat_eq, nat_lt, refl, sym, ap, ◌∙◌, subst, inl, inr, arith}
+use Rattle.std.proofs.Common.{◌≡◌, ℕ, zero, suc, ◌+◌, ◌-◌, ◌<◌, ◌≤◌, Bool, true, false, cond, List, [], length, get_or, position, Option, Some, None, is_none, nat_lt, refl, sym, ap, ◌∙◌, subst, inl, inr, arith}
 use Rattle.std.specs.List.{position_or_len}
 use Rattle.std.specs.Ordering.{nat_cmp}
 use Rattle.std.specs.declared.cmp.Ordering.TheVariants.{Less}
 use Rattle.std.specs.Cmp.Lexicographic.{slice_cmp, bytes_decides, nat_list_cmp_total}
-use Rattle.std.proofs.lemmas.Bool.{cases_lt}
+use Rattle.std.proofs.lemmas.Bool.{and_parts, and_from, cases_lt, eqb-true, eq-eqb}
 use Rattle.std.proofs.lemmas.Bool.Decides.{nat_tests}
 use Rattle.std.proofs.lemmas.List.Quantifiers.{position-Some}
 use Rattle.std.proofs.lemmas.List.Sums.{position_or_len_is, fails_before_first}
@@ -19,50 +19,32 @@ pub record Precedes (earlier later : List ℕ) : Type 0 where
   pub one : AreOneSequence earlier later
   pub next : number_of earlier + 1 ≡ number_of later
 
-pub parts : (a b : Bool) → (a && b) ≡ true → (a ≡ true) × (b ≡ true)
-parts true b e = (refl, e)
-parts false b e = absurd (cc)
-
-pub whole : (a b : Bool) → a ≡ true → b ≡ true → (a && b) ≡ true
-whole true true e f = refl
-whole true false e f = f
-whole false b e f = e
-
-pub same_number : (a b : ℕ) → nat_eq a b ≡ true → a ≡ b
-same_number a b e = grind (arith, nat_tests)
-
-pub number_same : (a b : ℕ) → a ≡ b → nat_eq a b ≡ true
-number_same a b e = grind (arith, nat_tests)
-
-pub other_number : (a b : ℕ) → (a ≡ b → ⊥) → nat_eq a b ≡ false
-other_number a b e = grind (arith, nat_tests)
-
 pub are_one : (earlier later : List ℕ) → is_one_sequence earlier later ≡ true → AreOneSequence earlier later
 unfolding is_one_sequence
 are_one earlier later e =
-    let p = parts _ _ e in
-    let q = parts _ _ p.1 in
+    let p = and_parts _ _ e in
+    let q = and_parts _ _ p.1 in
     record {
       before = (bytes_decides (before_of earlier) (before_of later)).0 p.0;
-      digits = same_number _ _ q.0;
+      digits = eqb-true _ _ q.0;
       after = (bytes_decides (after_of earlier) (after_of later)).0 q.1;
     }
 
 pub is_one : (earlier later : List ℕ) → AreOneSequence earlier later → is_one_sequence earlier later ≡ true
 unfolding is_one_sequence
 is_one earlier later one =
-    whole _ _ ((bytes_decides (before_of earlier) (before_of later)).1 one.before) (whole _ _ (number_same _ _ one.digits) ((bytes_decides (after_of earlier) (after_of later)).1 one.after))
+    and_from _ _ ((bytes_decides (before_of earlier) (before_of later)).1 one.before) (and_from _ _ (eq-eqb _ _ one.digits) ((bytes_decides (after_of earlier) (after_of later)).1 one.after))
 
 pub precedes : (earlier later : List ℕ) → is_predecessor earlier later ≡ true → Precedes earlier later
 unfolding is_predecessor
 precedes earlier later e =
-    let p = parts _ _ e in
-    let q = parts _ _ p.1 in
-    record { numbered = p.0; one = are_one earlier later q.0; next = same_number _ _ q.1 }
+    let p = and_parts _ _ e in
+    let q = and_parts _ _ p.1 in
+    record { numbered = p.0; one = are_one earlier later q.0; next = eqb-true _ _ q.1 }
 
 pub is_before : (earlier later : List ℕ) → Precedes earlier later → is_predecessor earlier later ≡ true
 unfolding is_predecessor
-is_before earlier later h = whole _ _ h.numbered (whole _ _ (is_one earlier later h.one) (number_same _ _ h.next))
+is_before earlier later h = and_from _ _ h.numbered (and_from _ _ (is_one earlier later h.one) (eq-eqb _ _ h.next))
 
 -- ---- where a search by place ends
 

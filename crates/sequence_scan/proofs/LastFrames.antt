@@ -1,6 +1,6 @@
 -- What the last frame of a sequence says of the next.
 use Rattle.std.proofs.Common.{◌≡◌, ℕ, zero, suc, ◌+◌, ◌<◌, ◌≤◌, Bool, true, false, ◌&&◌, cond, if◌then◌else◌, List, [], length, Option, Some, None, option_map, unwrap_or, nat_eq, nat_le, refl, sym, ap, ◌∙◌, subst, inl, inr, arith}
-use Rattle.std.proofs.lemmas.Bool.{cases_lt}
+use Rattle.std.proofs.lemmas.Bool.{and_parts, and_from, cases_lt, eqb-true, eq-eqb}
 use Rattle.std.proofs.lemmas.List.{length-map}
 use Rattle.std.specs.Cmp.Lexicographic.{bytes_decides}
 use Rattle.std.specs.Map.{lookup}
@@ -13,7 +13,7 @@ use Rattle.sequence_scan.specs.Numbers.{number_of, digits_of, before_of, after_o
 use Rattle.sequence_scan.specs.Runs.{AreFrames, name_at, predecessor_of, begins_run, places_where, run_at, runs_of}
 use Rattle.sequence_scan.specs.Scanning.{IsParted, AreLastBelow, LastFrames, runs_below, run_number, with_frame, begun_run, is_in, last_of, frame_at, same_sequence, run_going_on}
 use Rattle.sequence_scan.proofs.Order.{AreOneSequence}
-use Rattle.sequence_scan.proofs.Back.{rises, earlier, finds, finds_none, first_here, first_before, begins, sym_one, trans_one, parts, whole, same_number, number_same}
+use Rattle.sequence_scan.proofs.Back.{rises, earlier, finds, finds_none, first_here, first_before, begins, sym_one, trans_one}
 use Rattle.sequence_scan.proofs.Steps.{run_begins, run_goes_on}
 
 -- ---- the last place of a sequence
@@ -51,11 +51,11 @@ module _ (name : List ℕ) (parted : NumberedName) (of : IsParted name parted) w
   pub in_one : (other : List ℕ) → is_in parted.sequence other ≡ true → AreOneSequence other name
   unfolding is_in
   in_one other e =
-      let p = parts _ _ (parts _ _ e).1 in
-      let q = parts _ _ p.1 in
+      let p = and_parts _ _ (and_parts _ _ e).1 in
+      let q = and_parts _ _ p.1 in
       record {
         before = (bytes_decides (before_of other) parted.sequence.before.now).0 p.0 ∙ of.before;
-        digits = same_number _ _ q.0 ∙ of.digits;
+        digits = eqb-true _ _ q.0 ∙ of.digits;
         after = (bytes_decides (after_of other) parted.sequence.after.now).0 q.1 ∙ of.after;
       }
 
@@ -66,9 +66,9 @@ module _ (name : List ℕ) (parted : NumberedName) (of : IsParted name parted) w
   pub one_in : (other : List ℕ) → AreOneSequence other name → is_in parted.sequence other ≡ true
   unfolding is_in
   one_in other one =
-      whole _ _ (numbered_too other one)
-      (whole _ _ ((bytes_decides (before_of other) parted.sequence.before.now).1 (one.before ∙ sym of.before))
-      (whole _ _ (number_same _ _ (one.digits ∙ sym of.digits)) ((bytes_decides (after_of other) parted.sequence.after.now).1 (one.after ∙ sym of.after))))
+      and_from _ _ (numbered_too other one)
+      (and_from _ _ ((bytes_decides (before_of other) parted.sequence.before.now).1 (one.before ∙ sym of.before))
+      (and_from _ _ (eq-eqb _ _ (one.digits ∙ sym of.digits)) ((bytes_decides (after_of other) parted.sequence.after.now).1 (one.after ∙ sym of.after))))
 
   -- the key of a name looks up what the name is in
   pub same_key : (other : Sequence) → same_sequence parted.sequence other ≡ is_in other name
@@ -101,7 +101,7 @@ module _ (names : List (List ℕ)) (frames : AreFrames names) (place : ℕ) (wit
 
         by : (b : Bool) → nat_eq (number_of (name_at names p) + 1) parted.number ≡ b → (if b then Some (run_number names p) else None) ≡ option_map (run_number names) (predecessor_of names place)
         by true e =
-            let next : number_of (name_at names p) + 1 ≡ number_of (name_at names place) = same_number _ _ e ∙ of.number in
+            let next : number_of (name_at names p) + 1 ≡ number_of (name_at names place) = eqb-true _ _ e ∙ of.number in
             let it : predecessor_of names place ≡ Some p = finds names frames place p (omega (arith, h.below)) within (record { numbered = of.numbered; one = one; next = next }) in
             ap (option_map (run_number names)) (sym it)
         by false e =
@@ -109,7 +109,7 @@ module _ (names : List (List ℕ)) (frames : AreFrames names) (place : ℕ) (wit
             let before = earlier names frames k place lt within g in
             let inside = one_in (name_at names place) parted of (name_at names k) g.one in
             let other : number_of (name_at names p) + 1 ≡ number_of (name_at names place) → ⊥ = λ next.
-            let never : true ≡ false = sym (number_same _ _ (next ∙ sym of.number)) ∙ e in absurd (cc) in
+            let never : true ≡ false = sym (eq-eqb _ _ (next ∙ sym of.number)) ∙ e in absurd (cc) in
             let up = rises names frames p place h.below within one in
             elim (cases_lt p k) [
               | inl after ↦ let never : true ≡ false = sym inside ∙ h.later k after before in absurd (cc)

@@ -2,7 +2,7 @@
 use Rattle.std.proofs.Common.{◌≡◌, ℕ, ◌+◌, ◌-◌, ◌<◌, ◌≤◌, Bool, true, false, ◌&&◌, nat_le, List, ◌++◌, length, get_or, take, drop, refl, sym, ap, ◌∙◌, subst, inl, inr, arith}
 use Rattle.std.specs.List.{suffix_len, AllPass}
 use Rattle.std.proofs.Math.Seq.{take-add}
-use Rattle.std.proofs.lemmas.Bool.{cases_lt}
+use Rattle.std.proofs.lemmas.Bool.{and_parts, cases_lt}
 use Rattle.std.proofs.lemmas.Bool.Decides.{nat_tests}
 use Rattle.std.proofs.lemmas.List.{get_or-take, get_or-drop, get_or_default, length-take-le, length-drop, drop-drop, drop-take, take-take, take-append-drop, drop-append-le}
 use Rattle.std.proofs.lemmas.List.Sums.{suffix_len_is, suffix_len-le-length}
@@ -19,10 +19,6 @@ pub record StandsBetween (name : List ℕ) (start end : ℕ) : Type 0 where
   pub after : after_of name ≡ drop end name
   pub count : length (digits_of name) ≡ end - start
   pub all : AllPass is_digit (digits_of name)
-
-both : (a b : Bool) → (a && b) ≡ true → (a ≡ true) × (b ≡ true)
-both true b e = (refl, e)
-both false b e = absurd (cc)
 
 -- a byte that ends what follows a number is a slash or a digit
 digit_or_slash : (byte : ℕ) → is_tail byte ≡ false → is_no_slash byte ≡ true → is_no_digit byte ≡ false
@@ -53,7 +49,7 @@ module _ (s : List ℕ) (c a e : ℕ)
   c_le = omega (arith, suffix_len-le-length is_digit (take e s), e_long)
 
   tail_at : (k : ℕ) → k < length s → e ≤ k → (is_no_slash (get_or s k 0) ≡ true) × (is_no_digit (get_or s k 0) ≡ true)
-  tail_at k lt within = both _ _ (end_passes is_tail s k 0 lt (omega (arith, t_le)))
+  tail_at k lt within = and_parts _ _ (end_passes is_tail s k 0 lt (omega (arith, t_le)))
 
   digit_at : (k : ℕ) → k < e → e ≤ k + c → is_digit (get_or s k 0) ≡ true
   digit_at k lt within = subst (λ x. is_digit x ≡ true) (get_or-take e s k 0 lt) (end_passes is_digit (take e s) k 0 (omega (arith, e_long)) (omega (arith, e_long)))

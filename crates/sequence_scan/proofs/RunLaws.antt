@@ -1,7 +1,7 @@
 -- The members of a run follow one another, and each frame is in one run.
 use Rattle.std.proofs.Common.{◌≡◌, ℕ, zero, suc, ◌+◌, ◌<◌, ◌≤◌, Bool, true, false, cond, ◌||◌, if◌then◌else◌, List, [], ◌∷◌, ◌++◌, length, get_or, slice_get, map, Option, Some, None, is_none, nat_eq, refl, sym, ap, ◌∙◌, subst, inl, inr, arith}
 use Rattle.std.specs.List.{AllByRecursion, AllAdjacentBelow, list_any, count_by}
-use Rattle.std.proofs.lemmas.Bool.{cases_lt}
+use Rattle.std.proofs.lemmas.Bool.{cases_lt, eqb-true, eq-eqb, ne_eqb, or_from}
 use Rattle.std.proofs.lemmas.List.{get_or_append_left, get_or_push, length_push}
 use Rattle.std.proofs.lemmas.List.Elements.{All-from_recursion}
 use Rattle.std.proofs.lemmas.List.Folds.{list_any-append}
@@ -11,7 +11,7 @@ use Rattle.sequence_scan.specs.Numbers.{is_predecessor}
 use Rattle.sequence_scan.specs.Runs.{AreFrames, name_at, predecessor_of, begins_run, first_of, places_where, in_run, run_at, runs_of}
 use Rattle.sequence_scan.specs.Laws.{IsRun, MembersFollow, EachInOneRun, MembersByFirst, OnePredecessor}
 use Rattle.sequence_scan.proofs.Order.{AreOneSequence, one_name}
-use Rattle.sequence_scan.proofs.Back.{precedes, is_before, rises, sym_one, trans_one, found, first_here, first_before, first_begins, same_number, number_same, other_number}
+use Rattle.sequence_scan.proofs.Back.{precedes, is_before, rises, sym_one, trans_one, found, first_here, first_before, first_begins}
 use Rattle.sequence_scan.proofs.Steps.{AreOther, around, no_place, one_more, no_more, others_below}
 
 -- the last place that passes ends the places
@@ -64,11 +64,11 @@ module _ (names : List (List ℕ)) (frames : AreFrames names) where
     Follows place next = is_predecessor (name_at names place) (name_at names next) ≡ true
 
     none_before : places_where (in_run names first) first ≡ []
-    none_before = no_place (in_run names first) first (λ k lt. other_number (first_of names k) first (λ e. omega (arith, (first_begins names frames k (omega arith)).below)))
+    none_before = no_place (in_run names first) first (λ k lt. ne_eqb (first_of names k) first (λ e. omega (arith, (first_begins names frames k (omega arith)).below)))
 
     starts : (bound : ℕ) → first < bound → slice_get (places_where (in_run names first) bound) 0 ≡ Some first
     starts bound lt =
-        let split = around (in_run names first) first (number_same _ _ (first_here names frames first alone)) bound lt in
+        let split = around (in_run names first) first (eq-eqb _ _ (first_here names frames first alone)) bound lt in
         ap (λ (xs : List ℕ). slice_get xs 0) (split.is ∙ ap (λ (xs : List ℕ). xs ++ first ∷ split.rest) none_before)
 
     -- the last frame of the run so far is the predecessor of the next
@@ -77,7 +77,7 @@ module _ (names : List (List ℕ)) (frames : AreFrames names) where
     ends_with place p inside same e =
         let h = found names frames place p inside e in
         let ours : first_of names p ≡ first = sym (first_before names frames place p inside e) ∙ same in
-        last_place (in_run names first) p (number_same _ _ ours) place h.0 (λ k low high. other_number (first_of names k) first (λ also.
+        last_place (in_run names first) p (eq-eqb _ _ ours) place h.0 (λ k low high. ne_eqb (first_of names k) first (λ also.
         let up = rises names frames p k low (omega arith) (one_run p k (omega arith) (omega arith) (ours ∙ sym also)) in
         let on = rises names frames k place high inside (one_run k place (omega arith) inside (also ∙ sym same)) in
         omega (arith, up, on, h.1.next)))
@@ -89,12 +89,12 @@ module _ (names : List (List ℕ)) (frames : AreFrames names) where
         → IsChain (places_where (in_run names first) bound) → IsChain (places_where (in_run names first) (suc bound))
     chain_more bound lt false t o e chain = subst IsChain (sym (no_more (in_run names first) bound t)) chain
     chain_more bound lt true t None e chain =
-        let here : bound ≡ first = sym (first_here names frames bound e) ∙ same_number _ _ t in
+        let here : bound ≡ first = sym (first_here names frames bound e) ∙ eqb-true _ _ t in
         let nobody : places_where (in_run names first) bound ≡ [] = ap (places_where (in_run names first)) here ∙ none_before in
         let one : places_where (in_run names first) (suc bound) ≡ bound ∷ [] = one_more (in_run names first) bound t ∙ ap (λ (xs : List ℕ). xs ++ bound ∷ []) nobody in
         subst IsChain (sym one) (λ k d below. absurd (omega arith))
     chain_more bound lt true t (Some p) e chain =
-        let ends = ends_with bound p lt (same_number _ _ t) e in
+        let ends = ends_with bound p lt (eqb-true _ _ t) e in
         let more = one_more (in_run names first) bound t ∙ ap (λ (xs : List ℕ). xs ++ bound ∷ []) ends in
         let h = found names frames bound p lt e in
         subst IsChain (sym more)
@@ -141,10 +141,7 @@ members_follow names frames =
 -- ---- a frame is in the run of its first place alone
 
 itself : (place : ℕ) → nat_eq place place ≡ true
-itself place = number_same place place refl
-
-either : (a b : Bool) → a ≡ false → b ≡ false → (a || b) ≡ false
-either a b e f = rw (e, f) refl
+itself place = eq-eqb place place refl
 
 last_true : (a b c : Bool) → b ≡ true → (a || (b || c)) ≡ true
 last_true true b c e = refl
@@ -158,8 +155,8 @@ fails_there test place e (suc bound) = by (test bound) refl (fails_there test pl
     by : (b : Bool) → test bound ≡ b → list_any (nat_eq place) (places_where test bound) ≡ false → list_any (nat_eq place) (if b then places_where test bound ++ bound ∷ [] else places_where test bound) ≡ false
     by false t before = before
     by true t before =
-        let apart : nat_eq place bound ≡ false = other_number place bound (λ s. let never : true ≡ false = sym t ∙ ap test (sym s) ∙ e in absurd (cc)) in
-        list_any-append (nat_eq place) (places_where test bound) (bound ∷ []) ∙ either _ _ before (either _ _ apart refl)
+        let apart : nat_eq place bound ≡ false = ne_eqb place bound (λ s. let never : true ≡ false = sym t ∙ ap test (sym s) ∙ e in absurd (cc)) in
+        list_any-append (nat_eq place) (places_where test bound) (bound ∷ []) ∙ or_from _ _ before (or_from _ _ apart refl)
 
 holds_there : (test : ℕ → Bool) (place bound : ℕ) → place < bound → list_any (nat_eq place) (places_where test bound) ≡ test place
 holds_there test place bound lt = by (test place) refl

@@ -1,12 +1,12 @@
 -- The runs below a bound, one frame more.
 use Rattle.std.proofs.Common.{◌≡◌, ℕ, zero, suc, ◌+◌, ◌<◌, ◌≤◌, Bool, true, false, if◌then◌else◌, List, [], ◌∷◌, ◌++◌, length, get_or, set, map, Some, None, nat_eq, refl, sym, ap, ◌∙◌, subst, inl, inr, arith}
 use Rattle.std.specs.List.{AllByRecursion}
-use Rattle.std.proofs.lemmas.Bool.{cases_lt}
+use Rattle.std.proofs.lemmas.Bool.{cases_lt, eq-eqb, ne_eqb}
 use Rattle.std.proofs.lemmas.List.{map-append, length-map, set_at, get_or_at, append_assoc, length-append}
 use Rattle.sequence_scan.specs.declared.run.Run.{Run}
 use Rattle.sequence_scan.specs.Runs.{AreFrames, predecessor_of, begins_run, first_of, places_where, in_run, run_at}
 use Rattle.sequence_scan.specs.Scanning.{runs_below, run_number}
-use Rattle.sequence_scan.proofs.Back.{found, first_here, first_before, first_begins, goes_on, number_same, other_number}
+use Rattle.sequence_scan.proofs.Back.{found, first_here, first_before, first_begins, goes_on}
 
 -- ---- the places below a bound that pass a test
 
@@ -28,7 +28,7 @@ abbrev pub AreOther : ℕ → List ℕ → Type 0
 AreOther place places = AllByRecursion (λ other. nat_eq place other ≡ false) places
 
 other_more : (place other : ℕ) (places : List ℕ) → AreOther place places → (place ≡ other → ⊥) → AreOther place (places ++ other ∷ [])
-other_more place other [] all n = (other_number place other n, tt)
+other_more place other [] all n = (ne_eqb place other n, tt)
 other_more place other (p ∷ ps) all n = (all.0, other_more place other ps all.1 n)
 
 pub others_below : (test : ℕ → Bool) (place bound : ℕ) → bound ≤ place → AreOther place (places_where test bound)
@@ -77,7 +77,7 @@ module _ (names : List (List ℕ)) (bound : ℕ) where
 
   grown_run : (first : ℕ) → first_of names bound ≡ first → run_at names (suc bound) first ≡ record { first = first; members = (run_at names bound first).members ++ bound ∷ [] }
   unfolding run_at
-  grown_run first e = ap (λ (xs : List ℕ). record { first = first; members = xs }) (one_more (in_run names first) bound (number_same (first_of names bound) first e))
+  grown_run first e = ap (λ (xs : List ℕ). record { first = first; members = xs }) (one_more (in_run names first) bound (eq-eqb (first_of names bound) first e))
 
 -- the frame at the bound is one more member of a run
 pub record GoesOn (names : List (List ℕ)) (bound run : ℕ) (d : Run) : Type 0 where
@@ -94,7 +94,7 @@ module _ (names : List (List ℕ)) (frames : AreFrames names) (bound : ℕ) (wit
       let firsts : List ℕ = places_where (begins_run names) bound in
       let others : AreOther (first_of names bound) firsts = others_below (begins_run names) (first_of names bound) bound (omega arith) in
       let nobody : places_where (in_run names bound) bound ≡ [] =
-      no_place (in_run names bound) bound (λ k lt. other_number (first_of names k) bound (λ e. omega (arith, (first_begins names frames k (omega arith)).below))) in
+      no_place (in_run names bound) bound (λ k lt. ne_eqb (first_of names k) bound (λ e. omega (arith, (first_begins names frames k (omega arith)).below))) in
       let alone : run_at names (suc bound) bound ≡ record { first = bound; members = bound ∷ [] } =
       grown_run names bound bound here ∙ ap (λ (xs : List ℕ). record { first = bound; members = xs ++ bound ∷ [] }) nobody in
       ap (runs_below names) next

@@ -29,7 +29,10 @@ stem_of name = take (length name - 4) name
 abbrev pub ending_of : List ℕ → List ℕ
 ending_of name = drop (length name - 4) name
 
--- the base of a name: its last segment without the last four bytes; and the folders before it
+-- the base of a name: what stands behind the last slash once the last four bytes are cut; and what stands before the
+-- base. Where the last segment has at least four bytes, as one that ends in `.dpx` has, the base is that segment
+-- without its last four. A shorter one is cut off whole, with its slash, and the base then lies in a folder's name:
+-- that of `r1/abc` is `r1`.
 unfoldable pub base_of : List ℕ → List ℕ
 base_of name = end_where is_no_slash (stem_of name)
 

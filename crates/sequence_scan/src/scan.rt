@@ -96,7 +96,9 @@ fn add_frame<'a>(
     Ok(())
 }
 
-/// The runs of a listing of frames, in the order of their first places.
+/// The runs of a listing of frames, in the order of their first places. The names are fewer than 2^32,
+/// each at least four bytes long, in byte order and none twice. `NoMemory` is answered where there is no
+/// memory for the answer or for the last frame of each sequence.
 pub fn runs(alloc: Global, names: &[Name]) -> Result<Vec<Run>, NoMemory>
     requires few { length names.now < 2 ^ 32 }
     requires frames { AreFrames names.now }

@@ -39,7 +39,7 @@ fn are_frames(names: &[Name]) -> bool
 type Listing = (&'static [&'static str], &'static [&'static [u32]]);
 
 #[rattlefmt::skip]
-const TABLE: [Listing; 12] = [
+const TABLE: [Listing; 14] = [
     (&["a_0999.dpx", "a_1000.dpx", "a_1002.dpx"], &[&[0, 1], &[2]]),
     (&["a_10.dpx", "a_9.dpx"], &[&[0], &[1]]),
     (&["a_09.dpx", "a_10.dpx"], &[&[0, 1]]),
@@ -48,6 +48,8 @@ const TABLE: [Listing; 12] = [
     (&["a_123456789012345678.dpx", "a_123456789012345679.dpx"], &[&[0, 1]]),
     (&["a_1_x.dpx", "a_1_y.dpx", "a_2_x.dpx", "a_2_y.dpx"], &[&[0, 2], &[1, 3]]),
     (&["r1/a.dpx", "r2/a.dpx", "r3/1.dpx", "r4/2.dpx"], &[&[0], &[1], &[2], &[3]]),
+    (&["r1/abcd", "r2/abcd"], &[&[0], &[1]]),
+    (&["r1/abc", "r2/abc"], &[&[0, 1]]),
     (&["a_1.DPX", "a_1.dpx", "a_2.DPX", "a_2.dpx", "a_3.dPX"], &[&[0, 2], &[1, 3], &[4]]),
     (&["A_1.dpx", "a_2.dpx"], &[&[0], &[1]]),
     (&["a_1b2.dpx", "a_1b3.dpx", "a_2b3.dpx"], &[&[0, 1], &[2]]),
