@@ -2,7 +2,8 @@
 use Rattle.std.proofs.Common.{◌≡◌, ℕ, ◌+◌, ◌-◌, ◌*◌, ◌≤◌, ◌⊎◌, inl, inr, Bool, IsTrue, List, length, sym, ◌∙◌, ap, subst, arith}
 use Rattle.std.proofs.lemmas.Bool.Decides.{nat_tests}
 use Rattle.dpx_header.specs.declared.layout_type.Layout.{Layout}
-use Rattle.dpx_header.specs.Layout.{IsWellFormed, is_depth, is_stride, aligned, line_len, pads_in_line, image_size, sample_count, pad_count}
+use Rattle.dpx_header.specs.Layout.{IsWellFormed, is_depth, line_len, pads_in_line, image_size, sample_count, pad_count}
+use Rattle.dpx_header.proofs.Bounds.{bounds}
 use Rattle.dpx_packing.specs.Blocks.{Form, repeated, with_spare, HaveLengths}
 use Rattle.dpx_packing.specs.Units.{unit_of, units_in_line}
 use Rattle.dpx_packing.specs.FrameParts.{spare_of, line_of, frame_of, pads_of_line, samples_of, pads_of, image_of}
@@ -34,12 +35,6 @@ units-fill big width bits h =
     (record { bytes = omega arith; samples = omega arith; pads = omega arith })
     bits h
 
--- the stride is at least the line
-pub line-le-stride : (line stride : ℕ) → IsTrue (is_stride line stride) → line ≤ stride
-line-le-stride line stride h =
-    let which : (stride ≡ line) ⊎ (stride ≡ aligned line) = grind (arith, nat_tests) in
-    elim which [ inl e ↦ omega arith | inr e ↦ omega arith ]
-
 pub record LineNumbers (layout : Layout) : Type 0 where
   pub bytes : (line_of layout).bytes ≡ layout.stride
   pub samples : (line_of layout).samples ≡ 3 * layout.width
@@ -48,7 +43,7 @@ pub record LineNumbers (layout : Layout) : Type 0 where
 pub line-numbers : (layout : Layout) → IsWellFormed layout → LineNumbers layout
 line-numbers layout wf =
     let fill : UnitsFill layout.big layout.width layout.bits = units-fill layout.big layout.width layout.bits wf.depth in
-    let low : line_len layout.bits layout.width ≤ layout.stride = line-le-stride (line_len layout.bits layout.width) layout.stride wf.stride in
+    let low : line_len layout.bits layout.width ≤ layout.stride = (bounds layout wf).line_low in
     record {
       bytes = ap (λ n. n + (layout.stride - line_len layout.bits layout.width)) fill.bytes ∙ omega arith;
       samples = fill.samples;

@@ -3,7 +3,7 @@ use Rattle.std.proofs.Common.{◌≡◌, ◌≢◌, ℕ, suc, ◌+◌, ◌*◌, 
 use Rattle.std.specs.Prelude.{nat_le}
 use Rattle.std.specs.List.{flat_map, list_all}
 use Rattle.std.specs.Int.{bytes_high_first}
-use Rattle.std.proofs.lemmas.Bool.{eqb-true, le-leb}
+use Rattle.std.proofs.lemmas.Bool.{and_parts, eqb-true, le-leb}
 use Rattle.std.proofs.lemmas.Bool.Decides.{nat_tests}
 use Rattle.byteorder.specs.Numbers.{length-bytes_high_first}
 use Rattle.dpx_packing.specs.PadForms.{Run, runs_of, run_bytes, zeros_form, runs_form, values_form, shorter, pad_form_of}
@@ -17,20 +17,12 @@ record OneOfZero (x count : ℕ) : Type 0 where
   pub one : count ≡ 1
   pub zero_first : x ≡ 0
 
-pub and-left : (a b : Bool) → (a && b) ≡ true → a ≡ true
-and-left true b e = refl
-and-left false b e = e
-
-pub and-right : (a b : Bool) → (a && b) ≡ true → b ≡ true
-and-right true b e = e
-and-right false b e = absurd (cc)
-
 -- zeros are one run of zeros
 one_of_zero : (x : ℕ) (xs : List ℕ) → are_zero (x ∷ xs) ≡ true → OneOfZero x (length (runs_of (x ∷ xs)))
-one_of_zero x [] e = record { one = count-one x; zero_first = eqb-true x 0 (and-left _ _ e) }
+one_of_zero x [] e = record { one = count-one x; zero_first = eqb-true x 0 (and_parts _ _ e).0 }
 one_of_zero x (y ∷ ys) e =
-    let first : x ≡ 0 = eqb-true x 0 (and-left _ _ e) in
-    let ih = one_of_zero y ys (and-right _ _ e) in
+    let first : x ≡ 0 = eqb-true x 0 (and_parts _ _ e).0 in
+    let ih = one_of_zero y ys (and_parts _ _ e).1 in
     let same : (x == y) ≡ true = eq-eqb x y (first ∙ sym ih.zero_first) in
     let count : length (runs_of (x ∷ y ∷ ys)) ≡ length (runs_of (y ∷ ys)) = count-cons x y ys ∙ ap (λ (b : Bool). cond b 0 1 + length (runs_of (y ∷ ys))) same ∙ zero-add (length (runs_of (y ∷ ys))) in
     record { one = count ∙ ih.one; zero_first = first }

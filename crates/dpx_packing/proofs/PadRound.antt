@@ -4,11 +4,11 @@ use Rattle.std.specs.Prelude.{nat_le, replicate}
 use Rattle.std.specs.List.{flat_map, list_all}
 use Rattle.std.specs.Int.{bytes_high_first}
 use Rattle.std.proofs.lemmas.List.{length-replicate}
-use Rattle.std.proofs.lemmas.Bool.{leb-true, leb-false, lt-ltb, ltb-true}
+use Rattle.std.proofs.lemmas.Bool.{and_parts, leb-true, leb-false, lt-ltb, ltb-true}
 use Rattle.byteorder.specs.Endian.{big_number}
 use Rattle.byteorder.specs.Numbers.{big_number-reads_back}
 use Rattle.dpx_packing.specs.PadForms.{Run, values_of, run_before, runs_of, zeros_form, run_bytes, runs_form, values_form, pad_form_of, runs_at, is_run, runs_read, values_read, pads_read}
-use Rattle.dpx_packing.proofs.PadChoice.{are_zero, and-left, and-right, zeros_chosen, runs_chosen, values_chosen, length-run_bytes}
+use Rattle.dpx_packing.proofs.PadChoice.{are_zero, zeros_chosen, runs_chosen, values_chosen, length-run_bytes}
 
 -- ---- the maximal runs of a list spell it
 
@@ -33,7 +33,7 @@ before-each : (value : ℕ) (runs : List Run) → list_all is_run runs ≡ true 
 before-each value [] e = refl
 before-each value (run ∷ runs) e =
     elim (value == run.value) as (λ (b : Bool). list_all is_run (cond b (record { times = run.times + 1; value = value } ∷ runs) (record { times = 1; value = value } ∷ run ∷ runs)) ≡ true) [
-      | true ↦ let some : is_run (record { times = run.times + 1; value = value }) ≡ true = lt-ltb 0 (run.times + 1) (omega arith) in rw some (and-right (is_run run) (list_all is_run runs) e)
+      | true ↦ let some : is_run (record { times = run.times + 1; value = value }) ≡ true = lt-ltb 0 (run.times + 1) (omega arith) in rw some (and_parts (is_run run) (list_all is_run runs) e).1
       | false ↦ e
     ]
 
@@ -95,8 +95,8 @@ zeros_are_read count = refl
 fewer_runs : (runs : List Run) → list_all is_run runs ≡ true → length runs ≤ length (values_of runs)
 fewer_runs [] each = omega arith
 fewer_runs (run ∷ runs) each =
-    let some : 0 < run.times = ltb-true 0 run.times (and-left _ _ each) in
-    omega (arith, length-values_of-cons run runs, fewer_runs runs (and-right (is_run run) (list_all is_run runs) each))
+    let some : 0 < run.times = ltb-true 0 run.times (and_parts _ _ each).0 in
+    omega (arith, length-values_of-cons run runs, fewer_runs runs (and_parts (is_run run) (list_all is_run runs) each).1)
 
 pub runs_are_read : (runs : List Run) → list_all is_run runs ≡ true → length (values_of runs) < 2 ^ 32 → pads_read (runs_form runs) (length (values_of runs)) ≡ Some (values_of runs)
 runs_are_read runs each short = runs_form-read runs each short (omega (arith, fewer_runs runs each))
@@ -104,8 +104,8 @@ runs_are_read runs each short = runs_form-read runs each short (omega (arith, fe
 zeros-are : (values : List ℕ) → are_zero values ≡ true → replicate (length values) 0 ≡ values
 zeros-are [] e = refl
 zeros-are (x ∷ xs) e =
-    let first : x ≡ 0 = eqb-true x 0 (and-left _ _ e) in
-    rw (first, zeros-are xs (and-right (x == 0) (are_zero xs) e)) refl
+    let first : x ≡ 0 = eqb-true x 0 (and_parts _ _ e).0 in
+    rw (first, zeros-are xs (and_parts (x == 0) (are_zero xs) e).1) refl
 
 zeros_form-read : (values : List ℕ) → are_zero values ≡ true → pads_read zeros_form (length values) ≡ Some values
 unfolding pads_read

@@ -3,10 +3,10 @@ use Rattle.std.proofs.Common.{◌≡◌, ℕ, zero, suc, ◌+◌, ◌*◌, ◌�
 use Rattle.std.specs.Prelude.{nat_le, replicate}
 use Rattle.std.specs.List.{list_all}
 use Rattle.std.specs.Prelude.{if◌then◌else◌}
-use Rattle.std.proofs.lemmas.Bool.{leb-true, leb-false}
+use Rattle.std.proofs.lemmas.Bool.{and_parts, leb-true, leb-false}
 use Rattle.byteorder.specs.Endian.{big_number}
 use Rattle.dpx_packing.specs.PadForms.{Run, values_of, runs_of, runs_form, values_form, pad_form_of, runs_at, is_run, filled_by, zeros_read, runs_read, values_read, pads_read}
-use Rattle.dpx_packing.proofs.PadChoice.{are_zero, and-right, zeros_chosen, length-runs_form, length-values_form}
+use Rattle.dpx_packing.proofs.PadChoice.{are_zero, zeros_chosen, length-runs_form, length-values_form}
 use Rattle.dpx_packing.proofs.PadRuns.{change, count-cons, none_of_none}
 use Rattle.dpx_packing.proofs.PadRound.{before-le}
 
@@ -82,7 +82,7 @@ values_long : (body values : List ℕ) (count : ℕ) → values_read body count 
 unfolding values_read
 values_long body values count e =
     let g = given ((big_number 4 body == count) && (length body == 4 + count)) (drop 4 body) values e in
-    eqb-true _ _ (and-right (big_number 4 body == count) (length body == 4 + count) g.test)
+    eqb-true _ _ (and_parts (big_number 4 body == count) (length body == 4 + count) g.test).1
 
 by_kind : (kind : ℕ) (body values : List ℕ) → are_zero values ≡ false → pads_read (kind ∷ body) (length values) ≡ Some values → length (pad_form_of values) ≤ suc (length body)
 unfolding pads_read

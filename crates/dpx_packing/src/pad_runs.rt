@@ -1,9 +1,9 @@
 // The maximal runs of a list of pads: how many there are, and how long the first is.
 
-ghost use Rattle.std.specs.Prelude.{◌≡◌, ◌+◌, ◌-◌, ◌∷◌, ◌<◌, ◌≤◌, drop, length, slice_index, take};
+ghost use Rattle.std.specs.Prelude.{◌≡◌, ◌+◌, ◌-◌, ◌∷◌, ◌<◌, ◌≤◌, IsTrue, drop, length, replicate, slice_index, take};
 ghost use Rattle.dpx_packing.specs.PadForms.{runs_of};
 
-// So many places are counted in one byte, which LLVM does for sixteen at once.
+// So many places are counted in one byte, or compared with a value, which LLVM does for sixteen at once.
 const BLOCK: usize = 128;
 
 /// How many runs the list has.
@@ -44,6 +44,38 @@ fn changes(pads: &[u8], from: usize, to: usize) -> u8
     count
 }
 
+// Whether a stretch of this value that ends at one place goes on to another. It looks at each pad between
+// them, since a loop that ends early compares one at a time.
+fn goes_on(pads: &[u8], value: u8, from: usize, to: usize) -> bool
+    requires order { from ≤ to }
+    requires high { to ≤ length pads.now }
+    requires before { take from pads.now ≡ replicate from value }
+    ensures { IsTrue result → take to pads.now ≡ replicate to value }
+{
+    let mut same = true;
+    for i in from..to {
+        if pads[i] != value {
+            same = false;
+        }
+    }
+    same
+}
+
+// A length that the first run has at least: one pad and whole blocks.
+fn whole_blocks(pads: &[u8]) -> usize
+    requires { 0 < length pads.now }
+    ensures same { take result pads.now ≡ replicate result (slice_index pads.now 0) }
+    ensures low { 1 ≤ result }
+    ensures high { result ≤ length pads.now }
+{
+    let value = pads[0];
+    let mut len = 1;
+    while pads.len() - len >= BLOCK && goes_on(pads, value, len, len + BLOCK) {
+        len += BLOCK;
+    }
+    len
+}
+
 /// How long the first run is.
 #[tactic(auto, using(crate::proofs::PadRuns::first_run_is))]
 pub fn first_run(pads: &[u8]) -> usize
@@ -53,7 +85,7 @@ pub fn first_run(pads: &[u8]) -> usize
     ensures high { result ≤ length pads.now }
 {
     let value = pads[0];
-    let mut len = 1;
+    let mut len = whole_blocks(pads);
     while len < pads.len() && pads[len] == value {
         len += 1;
     }

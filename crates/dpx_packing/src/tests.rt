@@ -95,15 +95,17 @@ fn a_sample_of_12_bits_has_a_word(rt: HostRuntime) -> Result<(), Fail> {
 #[tactic(auto, unfolding(dpx_header::specs::Layout::line_len, dpx_header::specs::Layout::pads_in_line))]
 #[test]
 fn bytes_past_a_line_are_pads(rt: HostRuntime) -> Result<(), Fail> {
-    let bytes = layout(false, 8, 1, 2, 4);
-    both_ways(
-        &rt,
-        rt.alloc(),
-        &bytes,
-        &[1, 2, 3, 200, 4, 5, 255, 0],
-        &[1, 2, 3, 4, 5, 255],
-        &[200, 0],
-    )?;
+    for big in [true, false] {
+        let bytes = layout(big, 8, 1, 2, 4);
+        both_ways(
+            &rt,
+            rt.alloc(),
+            &bytes,
+            &[1, 2, 3, 200, 4, 5, 255, 0],
+            &[1, 2, 3, 4, 5, 255],
+            &[200, 0],
+        )?;
+    }
     let big = layout(true, 16, 1, 2, 8);
     both_ways(
         &rt,
