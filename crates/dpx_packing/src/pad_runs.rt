@@ -1,10 +1,13 @@
 // The maximal runs of a list of pads: how many there are, and how long the first is.
 
-ghost use Rattle.std.specs.Prelude.{◌≡◌, ◌+◌, ◌-◌, ◌∷◌, ◌<◌, ◌≤◌, IsTrue, drop, length, replicate, slice_index, take};
+ghost use Rattle.std.specs.Prelude.{◌≡◌, ◌≢◌, ◌+◌, ◌-◌, ◌∷◌, ◌<◌, ◌≤◌, IsTrue, drop, length, replicate, slice_index, take};
 ghost use Rattle.dpx_packing.specs.PadForms.{runs_of};
 
 // So many places are counted in one byte, or compared with a value, which LLVM does for sixteen at once.
 const BLOCK: usize = 128;
+
+// A run of fewer pads is found one at a time: a block would cost more.
+const SHORT: usize = 32;
 
 /// How many runs the list has.
 #[tactic(auto, using(crate::proofs::PadRuns::run_counts))]
@@ -61,19 +64,36 @@ fn goes_on(pads: &[u8], value: u8, from: usize, to: usize) -> bool
     same
 }
 
-// A length that the first run has at least: one pad and whole blocks.
-fn whole_blocks(pads: &[u8]) -> usize
-    requires { 0 < length pads.now }
-    ensures same { take result pads.now ≡ replicate result (slice_index pads.now 0) }
-    ensures low { 1 ≤ result }
+// How far a stretch of this value goes on, from one place and at most to another, one pad at a time.
+fn stretch_end(pads: &[u8], value: u8, from: usize, to: usize) -> usize
+    requires order { from ≤ to }
+    requires high { to ≤ length pads.now }
+    requires before { take from pads.now ≡ replicate from value }
+    ensures same { take result pads.now ≡ replicate result value }
+    ensures low { from ≤ result }
+    ensures high { result ≤ to }
+    ensures ends { result < to → slice_index pads.now result ≢ value }
+{
+    let mut end = from;
+    while end < to && pads[end] == value {
+        end += 1;
+    }
+    end
+}
+
+// As far as it goes on by whole blocks.
+fn block_end(pads: &[u8], value: u8, from: usize) -> usize
+    requires high { from ≤ length pads.now }
+    requires before { take from pads.now ≡ replicate from value }
+    ensures same { take result pads.now ≡ replicate result value }
+    ensures low { from ≤ result }
     ensures high { result ≤ length pads.now }
 {
-    let value = pads[0];
-    let mut len = 1;
-    while pads.len() - len >= BLOCK && goes_on(pads, value, len, len + BLOCK) {
-        len += BLOCK;
+    let mut end = from;
+    while pads.len() - end >= BLOCK && goes_on(pads, value, end, end + BLOCK) {
+        end += BLOCK;
     }
-    len
+    end
 }
 
 /// How long the first run is.
@@ -85,9 +105,10 @@ pub fn first_run(pads: &[u8]) -> usize
     ensures high { result ≤ length pads.now }
 {
     let value = pads[0];
-    let mut len = whole_blocks(pads);
-    while len < pads.len() && pads[len] == value {
-        len += 1;
+    let first = stretch_end(pads, value, 1, pads.len().min(SHORT));
+    if first < SHORT {
+        return first;
     }
-    len
+    let blocks = block_end(pads, value, first);
+    stretch_end(pads, value, blocks, pads.len())
 }
