@@ -9,7 +9,7 @@ use Rattle.dpx_header.specs.Layout.{IsWellFormed, pads_in_line, image_size, samp
 use Rattle.dpx_packing.specs.Blocks.{Form, of_blocks, repeated, EachFits}
 use Rattle.dpx_packing.specs.Units.{unit_of, units_in_line, pad_limit, AreBelow, FitUnit}
 use Rattle.dpx_packing.specs.FrameParts.{spare_of, line_of, frame_of, pads_of_line, samples_of, pads_of, image_of, SamplesFit, PadsFit}
-use Rattle.dpx_packing.specs.Laws.{TakesApart, PutsTogether}
+use Rattle.dpx_packing.specs.Laws.{TakesApart, PutsTogether, IsLineAt}
 use Rattle.dpx_packing.proofs.BlockRounds.{All-of_blocks, of_blocks-at}
 use Rattle.dpx_packing.proofs.Rounds.{Rounds, repeated-rounds, with_spare-rounds, front-len}
 use Rattle.dpx_packing.proofs.UnitRounds.{unit-rounds, unit-below, IsBelow}
@@ -102,6 +102,30 @@ pads-fit layout image wf long bytes y y_low =
     ap (take in_line) (sym at) ∙ units-pads in_line (pads_of_line layout) y all low in
     subst (AreBelow (pad_limit layout.bits)) e
     (line-pads-below layout wf part (line-len line.bytes layout.height y image exact y_low) part_below)
+
+-- ---- lines by their places
+
+-- what each line holds stands at its place, for samples and pads alike
+part-at : (part : List ℕ → List ℕ) (size width count stride wide y : ℕ) (image : List ℕ)
+    → ((xs : List ℕ) → length xs ≡ size → length (part xs) ≡ width) → size ≡ stride → width ≡ wide
+    → length image ≡ count * size → y < count
+    → take wide (drop (y * wide) (of_blocks part size count image)) ≡ part (take stride (drop (y * stride) image))
+part-at part size width count stride wide y image each size_is width_is long low =
+    subst (λ n. take n (drop (y * n) (of_blocks part size count image)) ≡ part (take stride (drop (y * stride) image))) width_is
+    (of_blocks-at part size width each count y image long low ∙ ap (λ n. part (take n (drop (y * n) image))) size_is)
+
+pub line-at : (layout : Layout) (image : List ℕ) (y : ℕ) → IsWellFormed layout → length image ≡ image_size layout
+    → y < layout.height → IsLineAt layout image y
+unfolding samples_of pads_of
+line-at layout image y wf long low =
+    let line : Form = line_of layout in
+    let numbers : LineNumbers layout = line-numbers layout wf in
+    let rounds : Rounds (line_of layout) (FitsLine layout) = line-rounds layout wf in
+    let exact : length image ≡ layout.height * line.bytes = long ∙ (frame-numbers layout wf).bytes in
+    record {
+      samples = part-at line.samples_of line.bytes line.samples layout.height layout.stride (3 * layout.width) y image rounds.samples_len numbers.bytes numbers.samples exact low;
+      pads = part-at line.pads_of line.bytes line.pads layout.height layout.stride (pads_of_line layout) y image rounds.pads_len numbers.bytes numbers.pads exact low;
+    }
 
 -- ---- the rounds
 

@@ -1,9 +1,9 @@
 -- What holds of the samples and pads of frames.
-use Rattle.std.specs.Prelude.{◌≡◌, ℕ, ◌+◌, List, ◌++◌, length, take, drop, Ok, Some}
+use Rattle.std.specs.Prelude.{◌≡◌, ℕ, ◌+◌, ◌*◌, ◌<◌, List, ◌++◌, length, take, drop, Ok, Some}
 use Rattle.cook_bits.specs.Bits.{AreBytes}
 use Rattle.dpx_header.specs.declared.layout_type.Layout.{Layout}
 use Rattle.dpx_header.specs.Layout.{IsWellFormed, image_size, sample_count, pad_count, layout_of}
-use Rattle.dpx_packing.specs.FrameParts.{samples_of, pads_of, image_of, SamplesFit, PadsFit}
+use Rattle.dpx_packing.specs.FrameParts.{line_of, pads_of_line, samples_of, pads_of, image_of, SamplesFit, PadsFit}
 use Rattle.dpx_packing.specs.PadForms.{pad_form_of, pads_read}
 
 -- an image's samples and pads: they have the layout's lengths, they fit, and they make the image
@@ -31,6 +31,21 @@ ImagesComeTogether =
     → length samples ≡ sample_count layout → length pads ≡ pad_count layout
     → SamplesFit layout samples → PadsFit layout pads
     → PutsTogether layout samples pads
+
+-- The line of an image at a height: its bytes begin at so many strides, and what stands at its place in the image's
+-- samples and in its pads is what these bytes hold.
+pub record IsLineAt (layout : Layout) (image : List ℕ) (y : ℕ) : Type 0 where
+  pub samples :
+      take (3 * layout.width) (drop (y * (3 * layout.width)) (samples_of layout image))
+      ≡ (line_of layout).samples_of (take layout.stride (drop (y * layout.stride) image))
+  pub pads :
+      take (pads_of_line layout) (drop (y * pads_of_line layout) (pads_of layout image))
+      ≡ (line_of layout).pads_of (take layout.stride (drop (y * layout.stride) image))
+
+abbrev pub LinesAreAtStrides : Type 0
+LinesAreAtStrides =
+    (layout : Layout) (image : List ℕ) (y : ℕ) → IsWellFormed layout → length image ≡ image_size layout
+    → y < layout.height → IsLineAt layout image y
 
 -- the bytes before the image, those of the image and those behind it
 abbrev pub head_of : Layout → List ℕ → List ℕ

@@ -1,7 +1,7 @@
 //! What holds of frames and their parts. Each function does nothing: its contract is the law, which a
 //! proof elsewhere can cite.
 
-ghost use Rattle.dpx_packing.specs.Laws.{ImagesComeApart, ImagesComeTogether, FramesAreTheirParts};
+ghost use Rattle.dpx_packing.specs.Laws.{ImagesComeApart, ImagesComeTogether, LinesAreAtStrides, FramesAreTheirParts};
 
 use crate::pad_laws::written_pads_are_read;
 
@@ -13,6 +13,12 @@ pub fn images_come_apart()
 /// The image that fitting samples and pads make has the layout's length and holds just these.
 pub fn images_come_together()
     ensures { ImagesComeTogether }
+{}
+
+/// The line of an image at a height begins at so many strides: the samples and the pads at its place are
+/// those that its bytes hold.
+pub fn lines_are_at_strides()
+    ensures { LinesAreAtStrides }
 {}
 
 /// A file that has a layout is its head, the image of its samples and pads, and its tail. The samples
