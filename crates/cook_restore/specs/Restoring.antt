@@ -239,8 +239,9 @@ IsNotGiven told after pending pending_after faults faults_now before (ungiven.Ch
 IsNotGiven told after pending pending_after faults faults_now before ungiven.Failed = Rose faults faults_now × LeavesNext told after pending pending_after before
 IsNotGiven told after pending pending_after faults faults_now before ungiven.NoMemory = LeavesNext told after pending pending_after before
 
--- after a refusal a restorer has ended before the same file
+-- after a refusal a restorer has ended before the same file, which was left to be given
 pub record IsEnded (before restorer : Restorer) : Type 0 where
   pub running : before.ended ≡ false
+  pub within : before.number < length before.records.items
   pub number : restorer.number ≡ before.number
   pub ended : restorer.ended ≡ true

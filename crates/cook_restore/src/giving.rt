@@ -1,7 +1,7 @@
 // A file is given back: its content is checked whole, then written in the target, and sealed.
 ghost use Rattle.std.specs.Prelude.{◌≡◌, ◌+◌, ◌<◌, ◌≤◌, ◌^◌, length, Some, IfOk, IfErr, OnOk, OnErr, IfSome};
 ghost use Rattle.shelf_core.specs.Causes.{HasCause};
-ghost use Rattle.shelf_core.specs.Told.{IsTold, HasFile, IsFree, content, with_file};
+ghost use Rattle.shelf_core.specs.Told.{HasFile, IsFree, content, with_file};
 ghost use Rattle.cook_restore.specs.Contents.{PlaceEndsBy};
 ghost use Rattle.cook_restore.specs.Giving.{IsChecked, NotChecked, NotWritten, IsContentGiven, NotGiven, bytes_told, target_of};
 ghost use Rattle.cook_restore.specs.Seen.{IsKept};

@@ -1,6 +1,6 @@
 ghost use Rattle.std.specs.Prelude.{◌≡◌, ◌-◌, ◌≤◌, Ok, None, [], false, length, codes, IfOk, OnOk, IfErr, IfSome};
 ghost use Rattle.shelf_core.specs.Told.{HasFile};
-ghost use Rattle.cook_restore.specs.Seen.{seen, Sees, Gives, Refuses, Interrupts, Holds, StopsFor, IsKept};
+ghost use Rattle.cook_restore.specs.Seen.{seen, Gives, Refuses, Holds, StopsFor, IsKept};
 ghost use Rattle.cook_restore.specs.Walk.{walked_children};
 ghost use Rattle.cook_restore.specs.Outline.{visit_attachments};
 ghost use Rattle.cook_restore.specs.Inside.{AllEndBy};

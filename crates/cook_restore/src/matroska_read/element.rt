@@ -1,6 +1,6 @@
 ghost use Rattle.std.specs.Prelude.{◌≡◌, ◌+◌, ◌≤◌, Ok, IfOk, OnOk, IfErr, IfSome};
 ghost use Rattle.shelf_core.specs.Told.{HasFile};
-ghost use Rattle.cook_restore.specs.Seen.{seen, Sees, Gives, Refuses, Holds, StopsFor, IsKept, shaped};
+ghost use Rattle.cook_restore.specs.Seen.{seen, Gives, Refuses, Holds, StopsFor, IsKept, shaped};
 ghost use Rattle.cook_restore.specs.Walk.{element_of, element_in, segment_of, segment_in};
 ghost use Rattle.cook_restore.specs.Inside.{IsInside};
 

@@ -1,8 +1,8 @@
 ghost use Rattle.std.specs.Prelude.{◌≡◌, ◌-◌, ◌≤◌, Ok, None, [], false, length, codes, IfOk, OnOk, IfErr, IfSome};
 ghost use Rattle.shelf_core.specs.Told.{HasFile};
-ghost use Rattle.cook_restore.specs.Seen.{seen, Sees, Gives, Refuses, Interrupts, Holds, StopsFor, IsKept};
+ghost use Rattle.cook_restore.specs.Seen.{seen, Gives, Refuses, Holds, StopsFor, IsKept};
 ghost use Rattle.cook_restore.specs.Walk.{walked_children};
-ghost use Rattle.cook_restore.specs.Outline.{attachments_visited, visit_segment, segment_read};
+ghost use Rattle.cook_restore.specs.Outline.{visit_segment, segment_read};
 ghost use Rattle.cook_restore.specs.Inside.{AllEndBy};
 
 use crate::matroska_read::attachments::read_attachments;

@@ -2,7 +2,7 @@
 ghost use Rattle.std.specs.Prelude.{◌≡◌, [], ◌+◌, ◌-◌, ◌<◌, ◌≤◌, List, length, take, drop, vec_len, OnOk, IfOk, IfErr, IfSome};
 ghost use Rattle.shelf_core.specs.Told.{HasFile};
 ghost use Rattle.cook_restore.specs.Seen.{seen, Sees, Interrupts, Holds, StopsFor, IsKept};
-ghost use Rattle.cook_restore.specs.Walk.{between, head_in};
+ghost use Rattle.cook_restore.specs.Walk.{head_in};
 ghost use Rattle.cook_restore.specs.Outline.{is_text_between};
 
 use crate::matroska_read::error::OutlineError;
