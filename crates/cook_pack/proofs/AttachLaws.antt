@@ -5,6 +5,7 @@ use Rattle.shelf_core.proofs.PieceLaws.{grown-if_told, grown-both, GrewPartly-fi
 use Rattle.shelf_parts.specs.Parts.{part_of}
 use Rattle.shelf_parts.proofs.PartLaws.{part-whole}
 use Rattle.md5.specs.Md5.{md5}
+use Rattle.cook_pack.specs.Planned.{Planned}
 use Rattle.cook_pack.specs.Stops.{StopsFor}
 use Rattle.cook_pack.specs.declared.error.PackError.{PackError}
 use Rattle.cook_pack.specs.declared.error.PackError.TheVariants.{Refused, InTheWay, Changed, Missing, Failed, NoMemory}
@@ -55,12 +56,12 @@ on_err (Ok x) holds = tt
 on_err (Err e) holds = holds
 
 -- what stops a later call stops the whole
-pub StopsFor-later : (told between : Told) (faults faults_then faults_now : ℕ) (error : PackError) → (IsTold told → IsTold between) → faults ≤ faults_then → StopsFor between faults_then faults_now error → StopsFor told faults faults_now error
-StopsFor-later told between faults faults_then faults_now (Changed name was now) known fell why = (λ k. why.0 (known k), why.1)
-StopsFor-later told between faults faults_then faults_now Failed known fell why = omega arith
-StopsFor-later told between faults faults_then faults_now NoMemory known fell why = tt
-StopsFor-later told between faults faults_then faults_now (Refused name reason) known fell why = why
-StopsFor-later told between faults faults_then faults_now (InTheWay name) known fell why = why
-StopsFor-later told between faults faults_then faults_now (Missing name) known fell why = why
+pub StopsFor-later : (told between : Told) (plan : Planned) (faults faults_then faults_now : ℕ) (error : PackError) → (IsTold told → IsTold between) → faults ≤ faults_then → StopsFor between plan faults_then faults_now error → StopsFor told plan faults faults_now error
+StopsFor-later told between plan faults faults_then faults_now (Changed name was now) known fell why = record { untold = λ k. why.untold (known k); planned = why.planned; fewer = why.fewer }
+StopsFor-later told between plan faults faults_then faults_now Failed known fell why = omega arith
+StopsFor-later told between plan faults faults_then faults_now NoMemory known fell why = tt
+StopsFor-later told between plan faults faults_then faults_now (Refused name reason) known fell why = why
+StopsFor-later told between plan faults faults_then faults_now (InTheWay name) known fell why = why
+StopsFor-later told between plan faults faults_then faults_now (Missing name) known fell why = why
 
 pub ruleset attach_laws = (attached_file-is, grown-if_told)

@@ -1,6 +1,6 @@
 -- What a plan keeps: the root, and of each file its name and length. What the planning of a directory answers.
-use Rattle.std.specs.Prelude.{◌≡◌, ℕ, ◌^◌, ◌≤◌, List, length, map, sum, false, All, Some, IsUtf8}
-use Rattle.std.specs.List.{AllAdjacentBelow}
+use Rattle.std.specs.Prelude.{◌≡◌, ℕ, ◌^◌, ◌≤◌, ◌<◌, List, [], length, map, slice_index, sum, false, All, Some, IsUtf8}
+use Rattle.std.specs.List.{AllAdjacentBelow, slice_index_or as get_or}
 use Rattle.std.specs.Ordering.{nat_cmp}
 use Rattle.std.specs.declared.cmp.Ordering.TheVariants.{Less}
 use Rattle.std.specs.Cmp.Lexicographic.{slice_cmp}
@@ -15,6 +15,13 @@ pub record Planned : Type 0 where
   pub root : List ℕ
   pub names : List (List ℕ)
   pub lengths : List ℕ
+
+-- a plan has a file of that name and length
+pub record IsInPlan (plan : Planned) (name : List ℕ) (len : ℕ) : Type 0 where
+  pub at : ℕ
+  pub inside : at < length plan.names
+  pub named : name ≡ get_or plan.names at []
+  pub long : len ≡ slice_index plan.lengths at
 
 -- a name stands before another in byte order
 abbrev pub IsBefore : List ℕ → List ℕ → Type 0

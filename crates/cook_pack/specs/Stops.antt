@@ -9,6 +9,7 @@ use Rattle.shelf_core.specs.declared.pieces.PieceError.{PieceError}
 use Rattle.shelf_core.specs.declared.pieces.PieceError.TheVariants as piece
 use Rattle.shelf_core.specs.declared.shelf.CreateError.{CreateError}
 use Rattle.shelf_core.specs.declared.shelf.CreateError.TheVariants as create
+use Rattle.cook_pack.specs.Planned.{Planned, IsInPlan}
 use Rattle.cook_pack.specs.declared.error.PackError.{PackError}
 use Rattle.cook_pack.specs.declared.error.PackError.TheVariants.{Refused, InTheWay, Changed, Missing, Failed, NoMemory}
 
@@ -17,22 +18,28 @@ abbrev pub pack_error : ShelfError → PackError
 pack_error shelf.Failed = Failed
 pack_error shelf.NoMemory = NoMemory
 
--- A file gave fewer bytes than it had, which no shelf does that tells its files; or the count of faults rose; or no memory was left.
-abbrev pub StopsFor : Told → ℕ → ℕ → PackError → Type 0
-StopsFor told faults faults_now (Changed name was now) = (IsTold told → ⊥) × (now < was)
-StopsFor told faults faults_now Failed = Rose faults faults_now
-StopsFor told faults faults_now NoMemory = Unit {0}
-StopsFor told faults faults_now (Refused name why) = ⊥
-StopsFor told faults faults_now (InTheWay name) = ⊥
-StopsFor told faults faults_now (Missing name) = ⊥
+-- a file of a plan gave fewer bytes than the plan says, which no shelf does that tells its files
+pub record FellShort (told : Told) (plan : Planned) (name : List ℕ) (was now : ℕ) : Type 0 where
+  pub untold : IsTold told → ⊥
+  pub planned : IsInPlan plan name was
+  pub fewer : now < was
 
--- what pack answers where a file of so many bytes was not copied whole
-abbrev pub StopsFrom : ℕ → PieceError → PackError → Type 0
-StopsFrom was (piece.Short at) (Changed name before now) = (before ≡ was) × (now ≡ at)
-StopsFrom was piece.Failed Failed = Unit {0}
-StopsFrom was piece.NoMemory NoMemory = Unit {0}
-StopsFrom was (piece.Short at) NoMemory = Unit {0}
-StopsFrom was error answer = ⊥
+-- A file fell short of its plan; or the count of faults rose; or no memory was left.
+abbrev pub StopsFor : Told → Planned → ℕ → ℕ → PackError → Type 0
+StopsFor told plan faults faults_now (Changed name was now) = FellShort told plan name was now
+StopsFor told plan faults faults_now Failed = Rose faults faults_now
+StopsFor told plan faults faults_now NoMemory = Unit {0}
+StopsFor told plan faults faults_now (Refused name why) = ⊥
+StopsFor told plan faults faults_now (InTheWay name) = ⊥
+StopsFor told plan faults faults_now (Missing name) = ⊥
+
+-- what pack answers where a file of that name and so many bytes was not copied whole
+abbrev pub StopsFrom : List ℕ → ℕ → PieceError → PackError → Type 0
+StopsFrom name was (piece.Short at) (Changed changed before now) = (changed ≡ name) × (before ≡ was) × (now ≡ at)
+StopsFrom name was piece.Failed Failed = Unit {0}
+StopsFrom name was piece.NoMemory NoMemory = Unit {0}
+StopsFrom name was (piece.Short at) NoMemory = Unit {0}
+StopsFrom name was error answer = ⊥
 
 -- the package's name is there already, and nothing was changed
 pub record IsInTheWay (told after : Told) (pending pending_after : Pending) (pkg name : List ℕ) : Type 0 where
@@ -51,13 +58,13 @@ LeavesFor told after pending pending_after pkg whole (Refused name why) = ⊥
 LeavesFor told after pending pending_after pkg whole (Missing name) = ⊥
 
 -- the causes of pack's answers: as those of the writing, but that the name may be there
-abbrev pub IsNotPacked : Told → ℕ → ℕ → PackError → Type 0
-IsNotPacked told faults faults_now (InTheWay name) = Unit {0}
-IsNotPacked told faults faults_now (Changed name was now) = (IsTold told → ⊥) × (now < was)
-IsNotPacked told faults faults_now Failed = Rose faults faults_now
-IsNotPacked told faults faults_now NoMemory = Unit {0}
-IsNotPacked told faults faults_now (Refused name why) = ⊥
-IsNotPacked told faults faults_now (Missing name) = ⊥
+abbrev pub IsNotPacked : Told → Planned → ℕ → ℕ → PackError → Type 0
+IsNotPacked told plan faults faults_now (InTheWay name) = Unit {0}
+IsNotPacked told plan faults faults_now (Changed name was now) = FellShort told plan name was now
+IsNotPacked told plan faults faults_now Failed = Rose faults faults_now
+IsNotPacked told plan faults faults_now NoMemory = Unit {0}
+IsNotPacked told plan faults faults_now (Refused name why) = ⊥
+IsNotPacked told plan faults faults_now (Missing name) = ⊥
 
 -- what pack answers where its package was not created
 abbrev pub NotCreated : List ℕ → CreateError → PackError → Type 0

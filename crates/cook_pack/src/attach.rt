@@ -1,10 +1,9 @@
 // The planned files as attachments of a package, and the records that the side data keeps of them.
 ghost use Rattle.std.specs.Prelude.{◌≡◌, ◌+◌, ◌<◌, ◌≤◌, ◌^◌, ◌++◌, ◌∷◌, length, slice_index_or, false, IfOk, OnOk, OnErr, IfErr};
-ghost use Rattle.shelf_core.specs.Pieces.{EndsWithin, IsNotShort};
-ghost use Rattle.shelf_core.specs.Causes.{Rose};
-ghost use Rattle.shelf_core.specs.Told.{Told, IsTold, HasFile, IsApart, IsPending, GrewPartly, content, grown, no_file};
+ghost use Rattle.shelf_core.specs.Told.{IsTold, HasFile, IsApart, IsPending, GrewPartly, content, grown, no_file};
 ghost use Rattle.cook_pack.specs.Pieces.{attached_file};
 ghost use Rattle.cook_pack.specs.Package.{AreRecordsOf, CanAttach, IsRecordOf, attached_from, attachment_at, planned_files};
+ghost use Rattle.cook_pack.specs.Planned.{Planned, IsInPlan};
 ghost use Rattle.cook_pack.specs.Stops.{StopsFor, StopsFrom};
 ghost use Rattle.md5.specs.Md5.{md5};
 
@@ -29,7 +28,7 @@ pub struct Attachment<'a> {
 
 // The cause for which a file was not copied whole.
 fn not_copied(alloc: Global, file: Attachment<'_>, error: PieceError) -> PackError
-    ensures { StopsFrom file.entry.len error result }
+    ensures { StopsFrom file.entry.name.now file.entry.len error result }
 {
     match error {
         PieceError::Failed => PackError::Failed,
@@ -68,7 +67,7 @@ pub fn attach_file<S: Shelf>(
     ensures stopped { OnErr result (GrewPartly (S.files shelf.old) to.now (attached_file file.entry.name.now false file.entry.uid (content (S.files shelf.old) from.now)) (S.files shelf.new)) }
     ensures unsealed { S.unsealed shelf.new ≡ S.unsealed shelf.old }
     ensures kept { S.faults shelf.old ≤ S.faults shelf.new }
-    ensures cause { IfErr result (StopsFor (S.files shelf.old) (S.faults shelf.old) (S.faults shelf.new)) }
+    ensures cause { (plan : Planned) → IsInPlan plan file.entry.name.now file.entry.len → IfErr result (StopsFor (S.files shelf.old) plan (S.faults shelf.old) (S.faults shelf.new)) }
 {
     let head = attached_head(alloc, file.name, false, file.uid, file.len)?;
     shelf.append(to, head.as_slice())?;
@@ -103,7 +102,7 @@ fn attach_planned<S: Shelf>(
     ensures stopped { OnErr result (GrewPartly (S.files shelf.old) to.now (attachment_at (planned_files (S.files shelf.old) plan.now) index) (S.files shelf.new)) }
     ensures unsealed { S.unsealed shelf.new ≡ S.unsealed shelf.old }
     ensures kept { S.faults shelf.old ≤ S.faults shelf.new }
-    ensures cause { IfErr result (StopsFor (S.files shelf.old) (S.faults shelf.old) (S.faults shelf.new)) }
+    ensures cause { IfErr result (StopsFor (S.files shelf.old) plan.now (S.faults shelf.old) (S.faults shelf.new)) }
 {
     let name = plan.name(index);
     let file = Attachment {
@@ -150,7 +149,7 @@ pub fn attach_files<S: Shelf>(
     ensures stopped { OnErr result (GrewPartly (S.files shelf.old) to.now (attached_from 1 (planned_files (S.files shelf.old) plan.now)) (S.files shelf.new)) }
     ensures unsealed { S.unsealed shelf.new ≡ S.unsealed shelf.old }
     ensures kept { S.faults shelf.old ≤ S.faults shelf.new }
-    ensures cause { IfErr result (StopsFor (S.files shelf.old) (S.faults shelf.old) (S.faults shelf.new)) }
+    ensures cause { IfErr result (StopsFor (S.files shelf.old) plan.now (S.faults shelf.old) (S.faults shelf.new)) }
 {
     let mut held = buffer_of(alloc, PIECE)?;
     let buffer = held.as_mut_slice();

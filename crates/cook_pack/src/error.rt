@@ -39,7 +39,7 @@ pub enum PackError {
     /// The package's name is there already.
     #[error("in the way")]
     InTheWay { name: Name },
-    /// A file that had `was` bytes gave only `now`.
+    /// A planned file that had `was` bytes gave only `now`.
     #[error("changed from {was} to {now} bytes")]
     Changed { name: Name, was: u64, now: u64 },
     /// A listed file isn't there when its length is asked.

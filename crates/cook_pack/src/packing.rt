@@ -1,11 +1,11 @@
 // The package as a whole: its creation, what stands before the attachments, the attachments, its sealing.
 ghost use Rattle.std.specs.Prelude.{◌≡◌, ◌+◌, ◌<◌, ◌≤◌, ◌^◌, ◌++◌, length, [], List, ℕ, OnOk, OnErr, IfOk, IfErr};
-ghost use Rattle.shelf_core.specs.Causes.{HasCause, Rose};
+ghost use Rattle.shelf_core.specs.Causes.{HasCause};
 ghost use Rattle.shelf_core.specs.Told.{IsTold, HasFile, IsAtRest, IsFree, IsPending, GrewPartly, grown, under, with_file, with_pending};
 ghost use Rattle.reversal.specs.SideData.{AreRecords};
 ghost use Rattle.cook_pack.specs.Package.{CanAttach, attachments_of, package_bytes, package_of, planned_files, side_attached};
 ghost use Rattle.cook_pack.specs.Pieces.{header_bytes, attachments_head};
-ghost use Rattle.cook_pack.specs.Planned.{Fits};
+ghost use Rattle.cook_pack.specs.Planned.{Planned, Fits};
 ghost use Rattle.cook_pack.specs.Stops.{StopsFor, LeavesFor, IsNotPacked, NotCreated};
 ghost use Rattle.cook_pack.specs.Sum.{IsSumOf};
 
@@ -73,7 +73,7 @@ fn attach_side<S: Shelf>(
     ensures stopped { OnErr result (GrewPartly (S.files shelf.old) to.now (side_attached records.now) (S.files shelf.new)) }
     ensures unsealed { S.unsealed shelf.new ≡ S.unsealed shelf.old }
     ensures kept { S.faults shelf.old ≤ S.faults shelf.new }
-    ensures cause { IfErr result (StopsFor (S.files shelf.old) (S.faults shelf.old) (S.faults shelf.new)) }
+    ensures cause { (plan : Planned) → IfErr result (StopsFor (S.files shelf.old) plan (S.faults shelf.old) (S.faults shelf.new)) }
 {
     let side = reversal::write(alloc, records)?;
     let len = side.as_slice().len() as u64;
@@ -96,7 +96,7 @@ fn write_attachments<S: Shelf>(
     ensures stopped { OnErr result (GrewPartly (S.files shelf.old) to.now (attachments_of (planned_files (S.files shelf.old) plan.now)) (S.files shelf.new)) }
     ensures unsealed { S.unsealed shelf.new ≡ S.unsealed shelf.old }
     ensures kept { S.faults shelf.old ≤ S.faults shelf.new }
-    ensures cause { IfErr result (StopsFor (S.files shelf.old) (S.faults shelf.old) (S.faults shelf.new)) }
+    ensures cause { IfErr result (StopsFor (S.files shelf.old) plan.now (S.faults shelf.old) (S.faults shelf.new)) }
 {
     let records = attach_files(alloc, shelf, plan, to)?;
     attach_side(alloc, shelf, &records, to)?;
@@ -118,7 +118,7 @@ fn write_package<S: Shelf>(
     ensures stopped { OnErr result (GrewPartly (S.files shelf.old) to.now (package_bytes (planned_files (S.files shelf.old) plan.now)) (S.files shelf.new)) }
     ensures unsealed { S.unsealed shelf.new ≡ S.unsealed shelf.old }
     ensures kept { S.faults shelf.old ≤ S.faults shelf.new }
-    ensures cause { IfErr result (StopsFor (S.files shelf.old) (S.faults shelf.old) (S.faults shelf.new)) }
+    ensures cause { IfErr result (StopsFor (S.files shelf.old) plan.now (S.faults shelf.old) (S.faults shelf.new)) }
 {
     let content = attachments_len(plan);
     let head = package_head(alloc, content)?;
@@ -159,7 +159,7 @@ fn create_package<S: Shelf>(alloc: Global, shelf: &mut S, pkg: &str) -> Result<(
     ensures created { OnOk result (S.files shelf.new ≡ with_file (S.files shelf.old) pkg.now []) }
     ensures pending { OnOk result (S.unsealed shelf.new ≡ with_pending (S.unsealed shelf.old) pkg.now) }
     ensures left { (whole : List ℕ) → IfErr result (LeavesFor (S.files shelf.old) (S.files shelf.new) (S.unsealed shelf.old) (S.unsealed shelf.new) pkg.now whole) }
-    ensures cause { IfErr result (IsNotPacked (S.files shelf.old) (S.faults shelf.old) (S.faults shelf.new)) }
+    ensures cause { (plan : Planned) → IfErr result (IsNotPacked (S.files shelf.old) plan (S.faults shelf.old) (S.faults shelf.new)) }
     ensures kept { S.faults shelf.old ≤ S.faults shelf.new }
 {
     match shelf.create(pkg) {
@@ -170,8 +170,9 @@ fn create_package<S: Shelf>(alloc: Global, shelf: &mut S, pkg: &str) -> Result<(
 
 /// Writes the package of a planned directory under the name `pkg`, which is free, and seals it.
 ///
-/// The answer is `InTheWay` where the name is there; `Changed` for a file that gave fewer bytes than it had; `Failed` where
-/// the shelf failed. After any refusal but `InTheWay` the package isn't there, or stands unsealed with a front of its bytes.
+/// The answer is `InTheWay` where the name is there; `Changed` for a file of the plan that gave only `now` bytes, with its
+/// name and its length `was` there; `Failed` where the shelf failed. After any refusal but `InTheWay` the package isn't
+/// there, or stands unsealed with a front of its bytes.
 pub fn pack<S: Shelf>(
     alloc: Global,
     shelf: &mut S,
@@ -187,7 +188,7 @@ pub fn pack<S: Shelf>(
     ensures sum { IfOk result (λ sum. IsTold (S.files shelf.old) → IsSumOf (under (S.files shelf.old) plan.now.root) options.rate sum) }
     ensures sealed { OnOk result (S.unsealed shelf.new ≡ S.unsealed shelf.old) }
     ensures left { IfErr result (LeavesFor (S.files shelf.old) (S.files shelf.new) (S.unsealed shelf.old) (S.unsealed shelf.new) pkg.now (package_of (under (S.files shelf.old) plan.now.root) options.rate)) }
-    ensures cause { IfErr result (IsNotPacked (S.files shelf.old) (S.faults shelf.old) (S.faults shelf.new)) }
+    ensures cause { IfErr result (IsNotPacked (S.files shelf.old) plan.now (S.faults shelf.old) (S.faults shelf.new)) }
     ensures kept { S.faults shelf.old ≤ S.faults shelf.new }
 {
     let files = plan.files();

@@ -35,7 +35,7 @@ returns-in_err-record-clause-stopped g c =
 pub returns-in_err-record-clause-cause : goal.returns-in_err-record-clause-cause
 returns-in_err-record-clause-cause g c =
     let p = err_from_is_err_and c.from_residual-in_err-record.result c.from_residual-in_err-record.ensures.1 in
-    rw (p.1, p.2) (StopsFor-later _ _ _ _ _ _ (IsTold-while_grown _ _ _ _ c.loop-index.invariant.files) c.loop-index.invariant.faults c.in_err-record.ensures.cause)
+    rw (p.1, p.2) (StopsFor-later _ _ _ _ _ _ _ (IsTold-while_grown _ _ _ _ c.loop-index.invariant.files) c.loop-index.invariant.faults c.in_err-record.ensures.cause)
 
 pub returns-in_err-push-clause-stopped : goal.returns-in_err-push-clause-stopped
 returns-in_err-push-clause-stopped g c =

@@ -1,4 +1,5 @@
 use Rattle.std.proofs.Common.{◌≡◌, length, refl, rules, ap, subst, ◌∙◌, arith}
+use Rattle.std.proofs.lemmas.Result.{err_from_is_err_and}
 use Rattle.cook_bits.specs.Names.{full_name}
 use Rattle.shelf_core.specs.Told.{GrewPartly, grown}
 use Rattle.shelf_core.proofs.PieceLaws.{GrewPartly-nothing}
@@ -42,6 +43,11 @@ returns-in_err-md5-clause-stopped g c =
     let full : c.as_str.result.now ≡ full_name c.args.plan.now.root c.name-name.result.now = search rules in
     let at = is_at _ _ _ _ c.name-name.result.now _ c.requires.ready c.requires.inside c.name-name.ensures full in
     on_err _ (subst (λ bytes. GrewPartly (g.S.Shelf.files c.args.shelf.now) c.args.to.now bytes (g.S.Shelf.files c.attach_file.new.shelf)) at.attachment c.in_err-md5.ensures.stopped)
+
+pub returns-in_err-md5-clause-cause : goal.returns-in_err-md5-clause-cause
+returns-in_err-md5-clause-cause g c =
+    let p = err_from_is_err_and c.from_residual-in_err-md5.result c.from_residual-in_err-md5.ensures.1 in
+    rw (p.1, p.2) (c.in_err-md5.ensures.cause _ (record { at = c.args.index; inside = c.requires.inside; named = c.name-name.ensures; long = c.length.ensures }))
 
 pub returns-clause-attached : goal.returns-clause-attached
 returns-clause-attached g c =

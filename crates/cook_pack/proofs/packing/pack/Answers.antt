@@ -22,17 +22,22 @@ returns-in_err-create_package-clause-left g c =
     let p = err_from_is_err_and c.from_residual.result c.from_residual.ensures.1 in
     rw (p.1, p.2) (c.in_err-create_package.ensures.left _)
 
+pub returns-in_err-create_package-clause-cause : goal.returns-in_err-create_package-clause-cause
+returns-in_err-create_package-clause-cause g c =
+    let p = err_from_is_err_and c.from_residual.result c.from_residual.ensures.1 in
+    rw (p.1, p.2) (c.in_err-create_package.ensures.cause _)
+
 pub returns-in_err-bytes-clause-left : goal.returns-in_err-bytes-clause-left
 returns-in_err-bytes-clause-left g c =
     let p = err_from_is_err_and c.from_residual-in_err-bytes.result c.from_residual-in_err-bytes.ensures.1 in
-    rw (p.1, p.2) (left_stopped _ _ _ _ _ _ _ _ _ _ c.in_err-bytes.ensures.cause
+    rw (p.1, p.2) (left_stopped _ _ _ _ _ _ _ _ _ _ _ c.in_err-bytes.ensures.cause
     (left_part _ _ _ _ _ _ _ c.in_ok-create_package.ensures.created (part-fits _ _ _ _ _ c.in_ok-create_package.ensures.created c.requires.fits c.in_ok-create_package.ensures.free c.in_err-bytes.ensures.stopped)
     c.in_ok-create_package.ensures.free (c.write_package.ensures.unsealed ∙ c.in_ok-create_package.ensures.pending)))
 
 pub returns-in_err-bytes-clause-cause : goal.returns-in_err-bytes-clause-cause
 returns-in_err-bytes-clause-cause g c =
     let p = err_from_is_err_and c.from_residual-in_err-bytes.result c.from_residual-in_err-bytes.ensures.1 in
-    rw (p.1, p.2) (cause_stopped _ _ _ _ _ _ (IsTold-created _ _ _ c.in_ok-create_package.ensures.created) c.create_package.ensures.kept c.in_err-bytes.ensures.cause)
+    rw (p.1, p.2) (cause_stopped _ _ _ _ _ _ _ (IsTold-created _ _ _ c.in_ok-create_package.ensures.created) c.create_package.ensures.kept c.in_err-bytes.ensures.cause)
 
 pub seal-requires : goal.seal-requires
 seal-requires g c = subst (λ p. IsPending p c.args.pkg.now) (sym (c.write_package.ensures.unsealed ∙ c.in_ok-create_package.ensures.pending)) (IsPending-with_pending _ _)

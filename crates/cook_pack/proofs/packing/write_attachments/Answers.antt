@@ -27,7 +27,7 @@ returns-in_err-attach_side-clause-stopped g c = on_err _ (GrewPartly-second _ _ 
 pub returns-in_err-attach_side-clause-cause : goal.returns-in_err-attach_side-clause-cause
 returns-in_err-attach_side-clause-cause g c =
     let p = err_from_is_err_and c.from_residual-in_err-attach_side.result c.from_residual-in_err-attach_side.ensures.1 in
-    rw (p.1, p.2) (StopsFor-later _ _ _ _ _ _ (IsTold-while_grown _ _ _ _ c.in_ok-records.ensures.attached) c.in_ok-records.ensures.kept c.in_err-attach_side.ensures.cause)
+    rw (p.1, p.2) (StopsFor-later _ _ _ _ _ _ _ (IsTold-while_grown _ _ _ _ c.in_ok-records.ensures.attached) c.in_ok-records.ensures.kept (c.in_err-attach_side.ensures.cause _))
 
 pub returns-clause-attached : goal.returns-clause-attached
 returns-clause-attached g c = grown-both _ _ _ _ _ _ _ c.in_ok-records.ensures.attached c.in_ok-attach_side.ensures.attached

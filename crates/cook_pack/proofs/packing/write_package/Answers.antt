@@ -32,7 +32,7 @@ returns-in_err-write_attachments-clause-stopped g c =
 pub returns-in_err-write_attachments-clause-cause : goal.returns-in_err-write_attachments-clause-cause
 returns-in_err-write_attachments-clause-cause g c =
     let p = err_from_is_err_and c.from_residual-in_err-write_attachments.result c.from_residual-in_err-write_attachments.ensures.1 in
-    rw (p.1, p.2) (StopsFor-later _ _ _ _ _ _ (IsTold-while_grown _ _ _ _ c.in_ok-append.ensures.ok) c.append.ensures.cause.faults_kept c.in_err-write_attachments.ensures.cause)
+    rw (p.1, p.2) (StopsFor-later _ _ _ _ _ _ _ (IsTold-while_grown _ _ _ _ c.in_ok-append.ensures.ok) c.append.ensures.cause.faults_kept c.in_err-write_attachments.ensures.cause)
 
 pub returns-clause-written : goal.returns-clause-written
 returns-clause-written g c =
