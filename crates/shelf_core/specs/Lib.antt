@@ -9,4 +9,5 @@ pub mod Store
 pub mod StoreOf
 pub mod StoreTold
 pub mod Told
+pub mod Untold
 pub use Rattle.cook_bits.specs.Names

@@ -2,7 +2,9 @@ ghost use Rattle.std.specs.Prelude.{◌≡◌, OnOk};
 ghost use Rattle.shelf_core.specs.Told.{IsTold, HasFile, content};
 
 use crate::{Part, copy_part, sum_part};
-use shelf_core::{MemShelf, PieceError, Shelf};
+use md5::{Digest, Md5};
+use shelf_core::{CreateError, Entry, MemShelf, PieceError, Shelf, ShelfError};
+use std::alloc::Global;
 use std::process::Abort;
 use std::test::Fail;
 
@@ -83,4 +85,92 @@ fn a_part_is_summed(rt: HostRuntime) -> Result<(), Fail> {
 fn a_part_is_copied(rt: HostRuntime) -> Result<(), Fail> {
     let mut shelf = MemShelf::new(rt.alloc(), Vec::new(rt.alloc()), Vec::new(rt.alloc()));
     copies_a_part(&rt, &mut shelf)
+}
+
+// A shelf that tells nothing, with one file without an end. Each byte of a reading is the number of the reading. What is
+// appended is kept.
+#[derive(Drop)]
+struct Turning {
+    alloc: Global,
+    readings: u8,
+    appended: Vec<u8>,
+    starved: u64,
+}
+
+#[tactic(auto, unfolding(shelf_core::specs::Told::IsTold, shelf_core::specs::Told::IsFree, shelf_core::specs::Told::IsAtRest, shelf_core::specs::Told::with_file, shelf_core::specs::Told::with_pending, shelf_core::specs::Told::without_pending))]
+impl Shelf for Turning {
+    ghost use Rattle.std.specs.Prelude.{None};
+    ghost use Rattle.std.proofs.Common.{refl};
+    ghost use Rattle.shelf_core.specs.Untold.{has_file};
+
+    ghost files = { λ shelf. None };
+
+    ghost unsealed = { λ shelf. None };
+
+    ghost faults = { λ shelf. 0 };
+
+    ghost starved = { λ shelf. shelf.starved };
+
+    ghost told_together = { λ shelf. refl };
+
+    ghost pending_is_there = { λ shelf name told pending. has_file name };
+
+    fn list(&mut self, _root: &str) -> Result<Vec<Entry>, ShelfError> {
+        Ok(Vec::new(self.alloc))
+    }
+
+    fn len(&mut self, _name: &str) -> Result<Option<u64>, ShelfError> {
+        Ok(None)
+    }
+
+    fn read_at(&mut self, _name: &str, _at: u64, buf: &mut [u8]) -> Result<usize, ShelfError> {
+        self.readings = self.readings.wrapping_add(1);
+        buf.fill(self.readings);
+        Ok(buf.len())
+    }
+
+    fn create(&mut self, _name: &str) -> Result<(), CreateError> {
+        Ok(())
+    }
+
+    fn make_folder(&mut self, _name: &str) -> Result<(), ShelfError> {
+        Ok(())
+    }
+
+    fn append(&mut self, _name: &str, bytes: &[u8]) -> Result<(), ShelfError> {
+        if self.appended.extend_from_slice(bytes).is_err() {
+            self.starved = self.starved.saturating_add(1);
+            return Err(ShelfError::NoMemory);
+        }
+        Ok(())
+    }
+
+    fn seal(&mut self, _name: &str) -> Result<(), ShelfError> {
+        Ok(())
+    }
+}
+
+// The sum is of the very bytes that were appended, not of a reading of its own.
+#[tactic(auto, unfolding(shelf_core::specs::Told::IsTold, shelf_core::specs::Told::HasFile, shelf_core::specs::Told::IsApart, shelf_core::specs::Told::IsPending))]
+#[test]
+fn what_was_appended_is_summed(rt: HostRuntime) -> Result<(), Fail> {
+    let mut shelf = Turning {
+        alloc: rt.alloc(),
+        readings: 0,
+        appended: Vec::new(rt.alloc()),
+        starved: 0,
+    };
+    let part = Part {
+        name: "f",
+        at: 4,
+        len: 9,
+    };
+    let mut buffer = [0u8; 4];
+    let sum = copy_part(&mut shelf, part, "g", &mut buffer)?;
+    let appended = shelf.appended.as_slice();
+    let mut hasher = Md5::new();
+    hasher.update(appended);
+    assert_eq!(rt; sum, hasher.finalize());
+    assert_eq!(rt; appended, [1u8, 1, 1, 1, 2, 2, 2, 2, 3].as_slice());
+    Ok(())
 }
