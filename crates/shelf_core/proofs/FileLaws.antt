@@ -91,9 +91,6 @@ unfolding with_file IsApart
 IsApart-with_file None name bytes other third apart = tt
 IsApart-with_file (Some files) name bytes other third apart = apart
 
-some_is : (o : Option (List ℕ)) (x : List ℕ) → o ≡ Some x → IsSome o
-some_is o x e = rw e refl
-
 pub HasFile-with_file : (told : Told) (name bytes other : List ℕ) → HasFile told other → HasFile (with_file told name bytes) other
 unfolding with_file HasFile
 HasFile-with_file None name bytes other there = tt

@@ -25,5 +25,3 @@ left_whole told after pending pending_after name whole is free unsealed = record
   files = is ∙ ap (with_file told name) (sym (take-length whole));
   unsealed = unsealed;
 }
-
-pub ruleset left_laws = (left_part, left_whole)

@@ -1,5 +1,5 @@
 -- Where a binary search ends among files whose names rise, and what is put there.
-use Rattle.std.proofs.Common.{◌≡◌, ℕ, zero, suc, ◌<◌, ◌≤◌, Bool, true, false, ◌&&◌, List, [], ◌∷◌, ◌++◌, length, take, drop, get_or, set, Some, None, Result, Ok, Err, IfOk, IfErr, refl, ap, subst, ◌∙◌, arith}
+use Rattle.std.proofs.Common.{◌≡◌, ℕ, zero, suc, ◌<◌, ◌≤◌, true, false, List, [], ◌∷◌, ◌++◌, length, take, drop, get_or, set, Some, None, Result, Ok, Err, IfOk, IfErr, refl, ap, subst, ◌∙◌, arith}
 use Rattle.std.specs.declared.cmp.Ordering.{Ordering}
 use Rattle.std.specs.declared.cmp.Ordering.TheVariants.{Less, Equal, Greater}
 use Rattle.std.specs.Cmp.{IsTotalOrder}
@@ -8,6 +8,7 @@ use Rattle.std.specs.FinMap.{find, put, slice_cmp-IsAntisymmetric, nat_cmp-IsAnt
 use Rattle.std.specs.FinMap.Entries.{below_all, by_order}
 use Rattle.std.specs.List.Sorted.{IsSearchInRange, IsBinarySearchResult, IsNonDecreasingBy, IsPartitionPoint}
 use Rattle.std.specs.Ordering.{ordering_index, ordering_reverse, is_lt, is_eq}
+use Rattle.std.proofs.lemmas.Bool.{and_parts}
 use Rattle.cook_bits.specs.Names.{File}
 use Rattle.shelf_core.specs.Store.{byte_order, IsAscending, bytes_in, put_in, StandsAt, BelongsAt}
 
@@ -26,14 +27,6 @@ less Less is = refl
 less Equal is = cc
 less Greater is = cc
 
-left_of : (a b : Bool) → (a && b) ≡ true → a ≡ true
-left_of true b is = refl
-left_of false b is = is
-
-right_of : (a b : Bool) → (a && b) ≡ true → b ≡ true
-right_of true b is = is
-right_of false b is = cc
-
 -- a smaller name compares no higher with any name
 rises_to : (x y name : List ℕ) (o : Ordering) → byte_order x y ≡ Less → byte_order y name ≡ o → ordering_index (byte_order x name) ≤ ordering_index o
 rises_to x y name Less below is = rw (total.trans x y name below is) (omega arith)
@@ -51,16 +44,16 @@ rises x y name below = rises_to x y name _ below refl
 -- a name below each of the files is below that at any place
 below_each : (x : List ℕ) (files : List File) (i : ℕ) (d : File) → below_all byte_order x files ≡ true → i < length files → byte_order x (get_or files i d).0 ≡ Less
 below_each x [] i d all lt = absurd (omega arith)
-below_each x (f ∷ fs) zero d all lt = less _ (left_of _ _ all)
-below_each x (f ∷ fs) (suc i) d all lt = below_each x fs i d (right_of _ _ all) (omega arith)
+below_each x (f ∷ fs) zero d all lt = less _ (and_parts _ _ all).0
+below_each x (f ∷ fs) (suc i) d all lt = below_each x fs i d (and_parts _ _ all).1 (omega arith)
 
 -- the comparisons with a name rise along the files
 climbs : (files : List File) (name : List ℕ) → IsAscending files → IsNonDecreasingBy (λ file. ordering_index (byte_order file.0 name)) files
 climbs [] name sorted i j d le lt = absurd (omega arith)
 climbs (f ∷ fs) name sorted zero zero d le lt = omega arith
-climbs (f ∷ fs) name sorted zero (suc j) d le lt = rises _ _ name (below_each f.0 fs j d (left_of _ _ sorted) (omega arith))
+climbs (f ∷ fs) name sorted zero (suc j) d le lt = rises _ _ name (below_each f.0 fs j d (and_parts _ _ sorted).0 (omega arith))
 climbs (f ∷ fs) name sorted (suc i) zero d le lt = absurd (omega arith)
-climbs (f ∷ fs) name sorted (suc i) (suc j) d le lt = climbs fs name (right_of _ _ sorted) i j d (omega arith) (omega arith)
+climbs (f ∷ fs) name sorted (suc i) (suc j) d le lt = climbs fs name (and_parts _ _ sorted).1 i j d (omega arith) (omega arith)
 
 -- what is found and put at the head of a list
 found_past : (name : List ℕ) (f : File) (fs : List File) (o : Ordering) → byte_order name f.0 ≡ o → is_eq o ≡ false → find byte_order name (f ∷ fs) ≡ find byte_order name fs
@@ -86,15 +79,15 @@ found_at : (files : List File) (name : List ℕ) (place : ℕ) (d : File) → Is
 found_at [] name place d sorted lt is = absurd (omega arith)
 found_at (f ∷ fs) name zero d sorted lt is = rw (turned f.0 name Equal is) refl
 found_at (f ∷ fs) name (suc place) d sorted lt is =
-    let below : byte_order f.0 name ≡ Less = subst (λ (z : List ℕ). byte_order f.0 z ≡ Less) (same_name (get_or fs place d).0 name is) (below_each f.0 fs place d (left_of _ _ sorted) (omega arith)) in
-    found_past name f fs Greater (turned f.0 name Less below) refl ∙ found_at fs name place d (right_of _ _ sorted) (omega arith) is
+    let below : byte_order f.0 name ≡ Less = subst (λ (z : List ℕ). byte_order f.0 z ≡ Less) (same_name (get_or fs place d).0 name is) (below_each f.0 fs place d (and_parts _ _ sorted).0 (omega arith)) in
+    found_past name f fs Greater (turned f.0 name Less below) refl ∙ found_at fs name place d (and_parts _ _ sorted).1 (omega arith) is
 
 put_over : (files : List File) (name bytes : List ℕ) (place : ℕ) (d : File) → IsAscending files → place < length files → byte_order (get_or files place d).0 name ≡ Equal → put byte_order name bytes files ≡ set files place (name, bytes)
 put_over [] name bytes place d sorted lt is = absurd (omega arith)
 put_over (f ∷ fs) name bytes zero d sorted lt is = put_past name bytes f fs Equal (turned f.0 name Equal is) ∙ ap (λ (first : List ℕ). (first, bytes) ∷ fs) (same_name f.0 name is)
 put_over (f ∷ fs) name bytes (suc place) d sorted lt is =
-    let below : byte_order f.0 name ≡ Less = subst (λ (z : List ℕ). byte_order f.0 z ≡ Less) (same_name (get_or fs place d).0 name is) (below_each f.0 fs place d (left_of _ _ sorted) (omega arith)) in
-    put_past name bytes f fs Greater (turned f.0 name Less below) ∙ ap (λ (rest : List File). f ∷ rest) (put_over fs name bytes place d (right_of _ _ sorted) (omega arith) is)
+    let below : byte_order f.0 name ≡ Less = subst (λ (z : List ℕ). byte_order f.0 z ≡ Less) (same_name (get_or fs place d).0 name is) (below_each f.0 fs place d (and_parts _ _ sorted).0 (omega arith)) in
+    put_past name bytes f fs Greater (turned f.0 name Less below) ∙ ap (λ (rest : List File). f ∷ rest) (put_over fs name bytes place d (and_parts _ _ sorted).1 (omega arith) is)
 
 -- a binary search by name ends at the file, or at the place for it
 pub searched : (files : List File) (name : List ℕ) (r : Result ℕ ℕ) → IsAscending files → IsSearchInRange r (length files) → IsBinarySearchResult (λ file. byte_order file.0 name) files r → record { found : IfOk r (StandsAt files name); free : IfErr r (BelongsAt files name) }

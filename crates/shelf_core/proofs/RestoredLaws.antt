@@ -9,16 +9,11 @@ use Rattle.std.proofs.Math.Seq.{take-suc, take-length}
 use Rattle.std.proofs.Math.ListN.{get_or-map}
 use Rattle.std.proofs.lemmas.List.{get_or-take, length-map}
 use Rattle.cook_bits.specs.Names.{File, IsRelativeName, full_name}
-use Rattle.shelf_core.specs.Told.{Told, IsTold, HasFile, IsFree, IsApart, content, no_file, under, with_file, with_files}
-use Rattle.shelf_core.proofs.FileLaws.{IsTold-with_file, IsTold-stays, HasFile-with_file, IsApart-with_file, IsApart-there, IsApart-different, IsFree-with_file, IsFree-not_there, content-apart}
+use Rattle.shelf_core.specs.Told.{Told, IsTold, HasFile, IsFree, no_file, under, with_file, with_files}
+use Rattle.shelf_core.proofs.FileLaws.{IsTold-stays, IsApart-different, IsFree-with_file, IsFree-not_there}
 use Rattle.shelf_core.proofs.UnderLaws.{IsFree-empty_relative}
 
 -- ---- one file after another
-
-pub with_files-append : (told : Told) (root : List ℕ) (files more : List File) → with_files told root (files ++ more) ≡ with_files (with_files told root files) root more
-unfolding with_files
-with_files-append told root [] more = refl
-with_files-append told root (file ∷ files) more = with_files-append (with_file told (full_name root file.0) file.1) root files more
 
 -- a file more at the end
 pub with_files-push : (told : Told) (root : List ℕ) (files : List File) (file : File) → with_files told root (files ++ file ∷ []) ≡ with_file (with_files told root files) (full_name root file.0) file.1
@@ -36,11 +31,6 @@ with_files-none told root files = refl
 
 pub with_files-all : (told : Told) (root : List ℕ) (files : List File) → with_files told root (take (length files) files) ≡ with_files told root files
 with_files-all told root files = ap (with_files told root) (take-length files)
-
-pub IsTold-with_files : (told : Told) (root : List ℕ) (files : List File) → IsTold (with_files told root files) → IsTold told
-unfolding with_files
-IsTold-with_files told root [] known = known
-IsTold-with_files told root (file ∷ files) known = IsTold-with_file told _ _ (IsTold-with_files (with_file told (full_name root file.0) file.1) root files known)
 
 pub IsTold-with_files_stays : (told : Told) (root : List ℕ) (files : List File) → IsTold told → IsTold (with_files told root files)
 unfolding with_files
@@ -108,39 +98,3 @@ pub not_there-with_files : (told : Told) (root : List ℕ) (files : List File) (
     → HasFile (with_files told root (take k files)) (full_name root (get_or files k no_file).0) → IsTold told → ⊥
 not_there-with_files told root files k none relative up inside there known =
     IsFree-not_there _ _ (IsTold-with_files_stays told root (take k files) known) (IsFree-with_files told root files k none relative up inside) there
-
--- ---- what was there stays
-
-pub HasFile-with_files : (told : Told) (root : List ℕ) (files : List File) (name : List ℕ) → HasFile told name → HasFile (with_files told root files) name
-unfolding with_files
-HasFile-with_files told root [] name there = there
-HasFile-with_files told root (file ∷ files) name there = HasFile-with_files (with_file told (full_name root file.0) file.1) root files name (HasFile-with_file told _ _ name there)
-
--- two names apart stay so
-pub IsApart-with_files : (told : Told) (root : List ℕ) (files : List File) (name other : List ℕ) → IsApart told name other → IsApart (with_files told root files) name other
-unfolding with_files
-IsApart-with_files told root [] name other apart = apart
-IsApart-with_files told root (file ∷ files) name other apart = IsApart-with_files (with_file told (full_name root file.0) file.1) root files name other (IsApart-with_file told _ _ name other apart)
-
-content-apart_files : (told : Told) (root name : List ℕ) (files : List File) → ((i : ℕ) → i < length files → IsApart told name (full_name root (get_or files i no_file).0)) → content (with_files told root files) name ≡ content told name
-unfolding with_files
-content-apart_files told root name [] apart = refl
-content-apart_files told root name (file ∷ files) apart =
-    content-apart_files (with_file told (full_name root file.0) file.1) root name files (λ i inside. IsApart-with_file told (full_name root file.0) file.1 name _ (apart (suc i) (omega arith)))
-    ∙ content-apart told (full_name root file.0) file.1 name (apart 0 (omega arith))
-
--- a file that is there is none of those that are added
-pub IsApart-added : (told : Told) (root : List ℕ) (files : List File) (k : ℕ) (name : List ℕ) → under told root ≡ [] → All IsRelativeName (names_in files) → HasFile told name → k < length files → IsApart told name (full_name root (get_or files k no_file).0)
-IsApart-added told root files k name none relative there inside = IsApart-there told _ name there (IsFree-empty_relative told root _ none (name_relative files k relative inside))
-
-pub content-with_files : (told : Told) (root : List ℕ) (files : List File) (name : List ℕ) → under told root ≡ [] → All IsRelativeName (names_in files) → HasFile told name → content (with_files told root files) name ≡ content told name
-content-with_files told root files name none relative there = content-apart_files told root name files (λ i inside. IsApart-added told root files i name none relative there inside)
-
--- the same while they are added
-pub content-with_files_so_far : (told : Told) (root : List ℕ) (files : List File) (k : ℕ) (name : List ℕ) → under told root ≡ [] → All IsRelativeName (names_in files) → HasFile told name → content (with_files told root (take k files)) name ≡ content told name
-content-with_files_so_far told root files k name none relative there = content-apart_files told root name (take k files) (λ i inside.
-    let before : i < k = omega (arith, length-take k files) in
-    let within : i < length files = omega (arith, length-take k files) in
-    subst (λ (file : File). IsApart told name (full_name root file.0)) (sym (get_or-take k files i no_file before)) (IsApart-added told root files i name none relative there within))
-
-pub ruleset restored_laws = (with_files-one_more, with_files-none, with_files-all, IsTold-with_files, IsTold-with_files_stays, IsFree-with_files, not_there-with_files, HasFile-with_files, IsApart-with_files, content-with_files_so_far)

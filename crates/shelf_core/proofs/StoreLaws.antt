@@ -7,9 +7,10 @@ use Rattle.std.specs.FinMap.Entries.{is_sorted-put, find-put}
 use Rattle.std.specs.List.{filter}
 use Rattle.std.specs.Option.{option_map, unwrap_or}
 use Rattle.std.specs.Ordering.{is_eq, eq_by_cmp}
+use Rattle.std.proofs.lemmas.Bool.{and_parts}
 use Rattle.cook_bits.specs.Names.{File, files_under, is_same_name}
 use Rattle.shelf_core.specs.Told.{HasFile, IsFree, content, length_of, with_file, grown, under, IsPending, IsAtRest, IsRead, with_pending, without_pending, GrewPartly}
-use Rattle.shelf_core.specs.StoreTold.{made, shown, both, left_of, right_of, found, has-told, told-has, pending-found, pending-has}
+use Rattle.shelf_core.specs.StoreTold.{made, shown, both, found, has-told, told-has, pending-found, pending-has}
 use Rattle.shelf_core.proofs.PieceLaws.{GrewPartly-nothing}
 use Rattle.shelf_core.specs.Store.{byte_order, IsAscending, AreThere, are_there, told_of, bytes_in, put_in, StandsAt, BelongsAt}
 
@@ -57,13 +58,13 @@ found-put files name bytes other is = ap is_some (find-put byte_order total othe
 pub there-put : (names : List (List ℕ)) (files : List File) (name bytes : List ℕ) → AreThere names files → AreThere names (put_in files name bytes)
 unfolding are_there bytes_in
 there-put [] files name bytes there = refl
-there-put (other ∷ names) files name bytes there = both _ _ (found-put files name bytes other (left_of _ _ there)) (there-put names files name bytes (right_of _ _ there))
+there-put (other ∷ names) files name bytes there = both _ _ (found-put files name bytes other (and_parts _ _ there).0) (there-put names files name bytes (and_parts _ _ there).1)
 
 -- the names of a list with one more
 there-more : (names : List (List ℕ)) (files : List File) (name : List ℕ) → AreThere names files → is_some (bytes_in files name) ≡ true → AreThere (names ++ name ∷ []) files
 unfolding are_there bytes_in
 there-more [] files name there is = both _ _ is refl
-there-more (other ∷ names) files name there is = both _ _ (left_of _ _ there) (there-more names files name (right_of _ _ there) is)
+there-more (other ∷ names) files name there is = both _ _ (and_parts _ _ there).0 (there-more names files name (and_parts _ _ there).1 is)
 
 put-found : (files : List File) (name bytes : List ℕ) → is_some (bytes_in (put_in files name bytes) name) ≡ true
 unfolding bytes_in put_in
@@ -77,8 +78,8 @@ pub there-filter : (p : List ℕ → Bool) (names : List (List ℕ)) (files : Li
 unfolding are_there
 there-filter p [] files there = refl
 there-filter p (name ∷ names) files there = elim (p name) as (λ (b : Bool). AreThere (cond b (name ∷ filter p names) (filter p names)) files) [
-  | true ↦ both _ _ (left_of _ _ there) (there-filter p names files (right_of _ _ there))
-  | false ↦ there-filter p names files (right_of _ _ there)
+  | true ↦ both _ _ (and_parts _ _ there).0 (there-filter p names files (and_parts _ _ there).1)
+  | false ↦ there-filter p names files (and_parts _ _ there).1
 ]
 
 -- so a name that no file has isn't one of them

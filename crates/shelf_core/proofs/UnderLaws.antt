@@ -1,10 +1,10 @@
 -- The files under a root, by their relative names: they stand in byte order, and each is found by its full name.
 use Rattle.std.proofs.Common.{◌≡◌, ℕ, zero, suc, ◌+◌, ◌<◌, Bool, true, false, cond, ◌&&◌, ◌==◌, if◌then◌else◌, T, List, [], ◌∷◌, ◌++◌, length, get_or, Option, Some, None, option_map, refl, sym, ap, ◌∙◌, subst, arith, append_assoc, add-one}
-use Rattle.std.specs.Ordering.{nat_cmp, is_lt, is_eq, ordering_then}
+use Rattle.std.specs.Ordering.{is_lt, is_eq, ordering_then}
 use Rattle.std.specs.declared.cmp.Ordering.{Ordering}
 use Rattle.std.specs.declared.cmp.Ordering.TheVariants.{Less, Equal, Greater}
 use Rattle.std.specs.Cmp.{tied_itself, nat_cmp_total}
-use Rattle.std.specs.Cmp.Lexicographic.{slice_cmp, nat_list_cmp_total}
+use Rattle.std.specs.Cmp.Lexicographic.{nat_list_cmp_total}
 use Rattle.std.specs.FinMap.{entries, entries_sorted, get-entries, nat_cmp-IsAntisymmetric, slice_cmp-IsAntisymmetric}
 use Rattle.std.specs.FinMap.Entries.{find, is_sorted, below_all}
 use Rattle.std.specs.List.{cons_option}
@@ -12,13 +12,11 @@ use Rattle.std.proofs.lemmas.List.{get_or-map, length-map}
 use Rattle.std.specs.Option.{unwrap_or}
 use Rattle.std.proofs.lemmas.Bool.Decides.{nat_tests}
 use Rattle.cook_bits.specs.Names.{File, IsRelativeName, is_relative_name, segments_of, full_name, rest_behind, non_empty, relative_to, renamed, files_under}
+use Rattle.shelf_core.specs.Store.{byte_order}
 use Rattle.shelf_core.specs.Listing.{plain_entry, plain_entries}
 use Rattle.shelf_core.specs.declared.shelf.Entry.{Entry}
 use Rattle.shelf_core.specs.Told.{Told, IsFree, no_file, under, length_of, content}
 use Rattle.shelf_core.proofs.Relative.{rest_behind-there}
-
-abbrev order : List ℕ → List ℕ → Ordering
-order = slice_cmp nat_cmp
 
 -- ---- tests that are joined
 
@@ -59,118 +57,118 @@ non_empty-is (Some (byte ∷ name)) rest e = e
 pub relative_to-is : (root name rest : List ℕ) → relative_to root name ≡ Some rest → name ≡ full_name root rest
 relative_to-is root name rest e = rest-is (root ++ 47 ∷ []) name rest (non_empty-is _ rest e) ∙ append_assoc root (47 ∷ []) rest
 
-order-behind : (front a b : List ℕ) → order (front ++ a) (front ++ b) ≡ order a b
+order-behind : (front a b : List ℕ) → byte_order (front ++ a) (front ++ b) ≡ byte_order a b
 order-behind [] a b = refl
-order-behind (x ∷ front) a b = ap (λ o. ordering_then o (order (front ++ a) (front ++ b))) (tied_itself nat_cmp_total x) ∙ order-behind front a b
+order-behind (x ∷ front) a b = ap (λ o. ordering_then o (byte_order (front ++ a) (front ++ b))) (tied_itself nat_cmp_total x) ∙ order-behind front a b
 
-order-full : (root a b : List ℕ) → order (full_name root a) (full_name root b) ≡ order a b
+order-full : (root a b : List ℕ) → byte_order (full_name root a) (full_name root b) ≡ byte_order a b
 order-full root a b = order-behind root (47 ∷ a) (47 ∷ b) ∙ order-behind (47 ∷ []) a b
 
 -- ---- the files stand in byte order
 
-below-by : (o : Option (List ℕ)) (root name rest : List ℕ) (e : File) (files : List File) → name ≡ full_name root rest → relative_to root e.0 ≡ o → T (is_lt (order name e.0)) → T (below_all order rest files) → T (below_all order rest (cons_option (renamed o e.1) files))
+below-by : (o : Option (List ℕ)) (root name rest : List ℕ) (e : File) (files : List File) → name ≡ full_name root rest → relative_to root e.0 ≡ o → T (is_lt (byte_order name e.0)) → T (below_all byte_order rest files) → T (below_all byte_order rest (cons_option (renamed o e.1) files))
 below-by None root name rest e files is found below behind = behind
 below-by (Some other) root name rest e files is found below behind =
-    let here : order name e.0 ≡ order rest other = ap (order name) (relative_to-is root e.0 other found) ∙ ap (λ n. order n (full_name root other)) is ∙ order-full root rest other in
+    let here : byte_order name e.0 ≡ byte_order rest other = ap (byte_order name) (relative_to-is root e.0 other found) ∙ ap (λ n. byte_order n (full_name root other)) is ∙ order-full root rest other in
     both _ _ (subst (λ o. T (is_lt o)) here below) behind
 
-below_files : (root name rest : List ℕ) (es : List File) → name ≡ full_name root rest → T (below_all order name es) → T (below_all order rest (files_under root es))
+below_files : (root name rest : List ℕ) (es : List File) → name ≡ full_name root rest → T (below_all byte_order name es) → T (below_all byte_order rest (files_under root es))
 unfolding files_under
 below_files root name rest [] is below = tt
 below_files root name rest (e ∷ es) is below = below-by (relative_to root e.0) root name rest e (files_under root es) is refl (first _ _ below) (below_files root name rest es is (second _ _ below))
 
-sorted-by : (o : Option (List ℕ)) (root : List ℕ) (e : File) (files : List File) → relative_to root e.0 ≡ o → ((rest : List ℕ) → e.0 ≡ full_name root rest → T (below_all order rest files)) → T (is_sorted order files) → T (is_sorted order (cons_option (renamed o e.1) files))
+sorted-by : (o : Option (List ℕ)) (root : List ℕ) (e : File) (files : List File) → relative_to root e.0 ≡ o → ((rest : List ℕ) → e.0 ≡ full_name root rest → T (below_all byte_order rest files)) → T (is_sorted byte_order files) → T (is_sorted byte_order (cons_option (renamed o e.1) files))
 sorted-by None root e files found below up = up
 sorted-by (Some rest) root e files found below up = both _ _ (below rest (relative_to-is root e.0 rest found)) up
 
-files_sorted : (root : List ℕ) (es : List File) → T (is_sorted order es) → T (is_sorted order (files_under root es))
+files_sorted : (root : List ℕ) (es : List File) → T (is_sorted byte_order es) → T (is_sorted byte_order (files_under root es))
 unfolding files_under
 files_sorted root [] up = tt
 files_sorted root (e ∷ es) up = sorted-by (relative_to root e.0) root e (files_under root es) refl (λ rest is. below_files root e.0 rest es is (first _ _ up)) (files_sorted root es (second _ _ up))
 
-adjacent : (files : List File) (k : ℕ) → T (is_sorted order files) → suc k < length files → order (get_or files k no_file).0 (get_or files (suc k) no_file).0 ≡ Less
+adjacent : (files : List File) (k : ℕ) → T (is_sorted byte_order files) → suc k < length files → byte_order (get_or files k no_file).0 (get_or files (suc k) no_file).0 ≡ Less
 adjacent [] k up inside = absurd (omega arith)
 adjacent (e ∷ []) zero up inside = absurd (omega arith)
 adjacent (e ∷ f ∷ files) zero up inside = less _ (first _ _ (first _ _ up))
 adjacent (e ∷ files) (suc k) up inside = adjacent files k (second _ _ up) (omega arith)
 
-pub under-ascending : (told : Told) (root : List ℕ) (k : ℕ) → k + 1 < length (under told root) → order (get_or (under told root) k no_file).0 (get_or (under told root) (k + 1) no_file).0 ≡ Less
+pub under-ascending : (told : Told) (root : List ℕ) (k : ℕ) → k + 1 < length (under told root) → byte_order (get_or (under told root) k no_file).0 (get_or (under told root) (k + 1) no_file).0 ≡ Less
 unfolding under
 under-ascending None root k inside = absurd (omega arith)
 under-ascending (Some files) root k inside = rw add-one (adjacent (files_under root (entries files)) k (files_sorted root (entries files) (entries_sorted files)) (omega arith))
 
 -- the first of them stands below each later one
-below-at : (name : List ℕ) (files : List File) (k : ℕ) → T (below_all order name files) → k < length files → order name (get_or files k no_file).0 ≡ Less
+below-at : (name : List ℕ) (files : List File) (k : ℕ) → T (below_all byte_order name files) → k < length files → byte_order name (get_or files k no_file).0 ≡ Less
 below-at name [] k below inside = absurd (omega arith)
 below-at name (e ∷ files) zero below inside = less _ (first _ _ below)
 below-at name (e ∷ files) (suc k) below inside = below-at name files k (second _ _ below) (omega arith)
 
-above_first : (files : List File) (k : ℕ) → T (is_sorted order files) → 0 < k → k < length files → order (get_or files 0 no_file).0 (get_or files k no_file).0 ≡ Less
+above_first : (files : List File) (k : ℕ) → T (is_sorted byte_order files) → 0 < k → k < length files → byte_order (get_or files 0 no_file).0 (get_or files k no_file).0 ≡ Less
 above_first [] k up later inside = absurd (omega arith)
 above_first (e ∷ files) zero up later inside = absurd (omega arith)
 above_first (e ∷ files) (suc k) up later inside = below-at e.0 files k (first _ _ up) (omega arith)
 
-pub under-above_first : (told : Told) (root : List ℕ) (k : ℕ) → 0 < k → k < length (under told root) → order (get_or (under told root) 0 no_file).0 (get_or (under told root) k no_file).0 ≡ Less
+pub under-above_first : (told : Told) (root : List ℕ) (k : ℕ) → 0 < k → k < length (under told root) → byte_order (get_or (under told root) 0 no_file).0 (get_or (under told root) k no_file).0 ≡ Less
 unfolding under
 under-above_first None root k later inside = absurd (omega arith)
 under-above_first (Some files) root k later inside = above_first (files_under root (entries files)) k (files_sorted root (entries files) (entries_sorted files)) later inside
 
 -- the same of what a listing shows
-pub listed-above_first : (told : Told) (root : List ℕ) (k : ℕ) (d : Entry) → 0 < k → k < length (plain_entries (under told root)) → order (get_or (plain_entries (under told root)) 0 d).name (get_or (plain_entries (under told root)) k d).name ≡ Less
+pub listed-above_first : (told : Told) (root : List ℕ) (k : ℕ) (d : Entry) → 0 < k → k < length (plain_entries (under told root)) → byte_order (get_or (plain_entries (under told root)) 0 d).name (get_or (plain_entries (under told root)) k d).name ≡ Less
 listed-above_first told root k d later inside =
     let within : k < length (under told root) = omega (arith, length-map (under told root) plain_entry) in
-    let here : order (get_or (under told root) 0 no_file).0 (get_or (under told root) k no_file).0 ≡ Less = under-above_first told root k later within in
+    let here : byte_order (get_or (under told root) 0 no_file).0 (get_or (under told root) k no_file).0 ≡ Less = under-above_first told root k later within in
     rw (get_or-map plain_entry (under told root) 0 no_file d (omega arith), get_or-map plain_entry (under told root) k no_file d within) here
 
 -- ---- each is found by its full name
 
-tied-not_below : (q x key : List ℕ) → order q key ≡ Equal → order x key ≡ Less → is_eq (order q x) ≡ false
-tied-not_below q x key tied below = by_cases (order q x) refl
+tied-not_below : (q x key : List ℕ) → byte_order q key ≡ Equal → byte_order x key ≡ Less → is_eq (byte_order q x) ≡ false
+tied-not_below q x key tied below = by_cases (byte_order q x) refl
   where
-    by_cases : (o : Ordering) → order q x ≡ o → is_eq o ≡ false
+    by_cases : (o : Ordering) → byte_order q x ≡ o → is_eq o ≡ false
     by_cases Less e = refl
     by_cases Greater e = refl
-    by_cases Equal e = let same : order q key ≡ order x key = nat_list_cmp_total.congr q x key e in absurd (cc)
+    by_cases Equal e = let same : byte_order q key ≡ byte_order x key = nat_list_cmp_total.congr q x key e in absurd (cc)
 
 equal : (o : Ordering) → is_eq o ≡ true → o ≡ Equal
 equal Less e = absurd (cc)
 equal Equal e = refl
 equal Greater e = absurd (cc)
 
-behind-by : (t : Bool) (q x : List ℕ) (e : File) (found_in : Option (List ℕ)) (bytes : List ℕ) → is_eq (order q e.0) ≡ t → T (is_lt (order x e.0)) → (found_in ≡ Some bytes → is_eq (order q x) ≡ false) → cond t (Some e.1) found_in ≡ Some bytes → is_eq (order q x) ≡ false
+behind-by : (t : Bool) (q x : List ℕ) (e : File) (found_in : Option (List ℕ)) (bytes : List ℕ) → is_eq (byte_order q e.0) ≡ t → T (is_lt (byte_order x e.0)) → (found_in ≡ Some bytes → is_eq (byte_order q x) ≡ false) → cond t (Some e.1) found_in ≡ Some bytes → is_eq (byte_order q x) ≡ false
 behind-by true q x e found_in bytes tied below behind found = tied-not_below q x e.0 (equal _ tied) (less _ below)
 behind-by false q x e found_in bytes apart below behind found = behind found
 
-found-behind : (q x : List ℕ) (es : List File) (bytes : List ℕ) → T (below_all order x es) → find order q es ≡ Some bytes → is_eq (order q x) ≡ false
+found-behind : (q x : List ℕ) (es : List File) (bytes : List ℕ) → T (below_all byte_order x es) → find byte_order q es ≡ Some bytes → is_eq (byte_order q x) ≡ false
 found-behind q x [] bytes below found = absurd (cc)
-found-behind q x (e ∷ es) bytes below found = behind-by (is_eq (order q e.0)) q x e (find order q es) bytes refl (first _ _ below) (λ later. found-behind q x es bytes (second _ _ below) later) found
+found-behind q x (e ∷ es) bytes below found = behind-by (is_eq (byte_order q e.0)) q x e (find byte_order q es) bytes refl (first _ _ below) (λ later. found-behind q x es bytes (second _ _ below) later) found
 
-itself : (name : List ℕ) → is_eq (order name name) ≡ true
+itself : (name : List ℕ) → is_eq (byte_order name name) ≡ true
 itself name = ap is_eq (tied_itself nat_list_cmp_total name)
 
-found-later : (e : File) (es : List File) (q bytes : List ℕ) → T (is_sorted order (e ∷ es)) → find order q es ≡ Some bytes → find order q (e ∷ es) ≡ Some bytes
-found-later e es q bytes up found = ap (λ t. cond t (Some e.1) (find order q es)) (found-behind q e.0 es bytes (first _ _ up) found) ∙ found
+found-later : (e : File) (es : List File) (q bytes : List ℕ) → T (is_sorted byte_order (e ∷ es)) → find byte_order q es ≡ Some bytes → find byte_order q (e ∷ es) ≡ Some bytes
+found-later e es q bytes up found = ap (λ t. cond t (Some e.1) (find byte_order q es)) (found-behind q e.0 es bytes (first _ _ up) found) ∙ found
 
-found-here : (e : File) (es : List File) (q : List ℕ) → e.0 ≡ q → find order q (e ∷ es) ≡ Some e.1
-found-here e es q same = ap (λ t. cond t (Some e.1) (find order q es)) (ap (λ n. is_eq (order q n)) same ∙ itself q)
+found-here : (e : File) (es : List File) (q : List ℕ) → e.0 ≡ q → find byte_order q (e ∷ es) ≡ Some e.1
+found-here e es q same = ap (λ t. cond t (Some e.1) (find byte_order q es)) (ap (λ n. is_eq (byte_order q n)) same ∙ itself q)
 
 -- the file at a place of a list is found by its full name
 IsFoundAt : List ℕ → List File → List File → ℕ → Type 0
-IsFoundAt root es files i = find order (full_name root (get_or files i no_file).0) es ≡ Some (get_or files i no_file).1
+IsFoundAt root es files i = find byte_order (full_name root (get_or files i no_file).0) es ≡ Some (get_or files i no_file).1
 
-found-by : (o : Option (List ℕ)) (root : List ℕ) (e : File) (es files : List File) → relative_to root e.0 ≡ o → T (is_sorted order (e ∷ es)) → ((i : ℕ) → i < length files → IsFoundAt root es files i) → (i : ℕ) → i < length (cons_option (renamed o e.1) files) → IsFoundAt root (e ∷ es) (cons_option (renamed o e.1) files) i
+found-by : (o : Option (List ℕ)) (root : List ℕ) (e : File) (es files : List File) → relative_to root e.0 ≡ o → T (is_sorted byte_order (e ∷ es)) → ((i : ℕ) → i < length files → IsFoundAt root es files i) → (i : ℕ) → i < length (cons_option (renamed o e.1) files) → IsFoundAt root (e ∷ es) (cons_option (renamed o e.1) files) i
 unfolding IsFoundAt
 found-by None root e es files found up behind i inside = found-later e es _ _ up (behind i inside)
 found-by (Some rest) root e es files found up behind zero inside = found-here e es (full_name root rest) (relative_to-is root e.0 rest found)
 found-by (Some rest) root e es files found up behind (suc i) inside = found-later e es _ _ up (behind i (omega arith))
 
-found_all : (root : List ℕ) (es : List File) → T (is_sorted order es) → (i : ℕ) → i < length (files_under root es) → IsFoundAt root es (files_under root es) i
+found_all : (root : List ℕ) (es : List File) → T (is_sorted byte_order es) → (i : ℕ) → i < length (files_under root es) → IsFoundAt root es (files_under root es) i
 unfolding files_under
 found_all root [] up = λ i inside. absurd (omega arith)
 found_all root (e ∷ es) up = λ i inside. found-by (relative_to root e.0) root e es (files_under root es) refl up (found_all root es (second _ _ up)) i inside
 
-found_at : (root : List ℕ) (es : List File) (i : ℕ) → T (is_sorted order es) → i < length (files_under root es)
-    → find order (full_name root (get_or (files_under root es) i no_file).0) es ≡ Some (get_or (files_under root es) i no_file).1
+found_at : (root : List ℕ) (es : List File) (i : ℕ) → T (is_sorted byte_order es) → i < length (files_under root es)
+    → find byte_order (full_name root (get_or (files_under root es) i no_file).0) es ≡ Some (get_or (files_under root es) i no_file).1
 unfolding IsFoundAt
 found_at root es i up inside = found_all root es up i inside
 
@@ -202,17 +200,17 @@ nothing-here : (o : Option (List ℕ)) (e : File) (files : List File) → cons_o
 nothing-here None e files is = refl
 nothing-here (Some rest) e files is = absurd (cc)
 
-absent-by : (t : Bool) (root name : List ℕ) (e : File) (found_in : Option (List ℕ)) → is_eq (order (full_name root name) e.0) ≡ t → relative_to root e.0 ≡ None → 0 < length name → found_in ≡ None → cond t (Some e.1) found_in ≡ None
+absent-by : (t : Bool) (root name : List ℕ) (e : File) (found_in : Option (List ℕ)) → is_eq (byte_order (full_name root name) e.0) ≡ t → relative_to root e.0 ≡ None → 0 < length name → found_in ≡ None → cond t (Some e.1) found_in ≡ None
 absent-by false root name e found_in tied unlisted filled none = none
 absent-by true root name e found_in tied unlisted filled none =
     let same : full_name root name ≡ e.0 = slice_cmp-IsAntisymmetric nat_cmp-IsAntisymmetric (full_name root name) e.0 (equal _ tied) in
     let listed : relative_to root e.0 ≡ Some name = ap (relative_to root) (sym same) ∙ relative_to-full root name filled in
     absurd (cc)
 
-absent : (root name : List ℕ) (es : List File) → files_under root es ≡ [] → 0 < length name → find order (full_name root name) es ≡ None
+absent : (root name : List ℕ) (es : List File) → files_under root es ≡ [] → 0 < length name → find byte_order (full_name root name) es ≡ None
 unfolding files_under
 absent root name [] none filled = refl
-absent root name (e ∷ es) none filled = absent-by (is_eq (order (full_name root name) e.0)) root name e (find order (full_name root name) es) refl (nothing-here (relative_to root e.0) e (files_under root es) none) filled (absent root name es (nothing-behind (relative_to root e.0) e (files_under root es) none) filled)
+absent root name (e ∷ es) none filled = absent-by (is_eq (byte_order (full_name root name) e.0)) root name e (find byte_order (full_name root name) es) refl (nothing-here (relative_to root e.0) e (files_under root es) none) filled (absent root name es (nothing-behind (relative_to root e.0) e (files_under root es) none) filled)
 
 -- no file has a full name under it
 pub IsFree-empty : (told : Told) (root name : List ℕ) → under told root ≡ [] → 0 < length name → IsFree told (full_name root name)

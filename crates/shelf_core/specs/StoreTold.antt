@@ -1,6 +1,7 @@
 -- What the laws of a shelf ask of files in memory: they are told, and each unsealed name is one of them.
 use Rattle.std.specs.Prelude.{◌≡◌, ℕ, zero, suc, ◌<◌, Bool, true, false, ◌&&◌, List, [], ◌∷◌, length, slice_index_or, Option, Some, IsSome, is_some, refl}
 use Rattle.std.proofs.Common.{sym, subst, arith}
+use Rattle.std.proofs.lemmas.Bool.{and_parts}
 use lib.Dec.{T}
 use Rattle.std.specs.FinMap.{from_sorted, get, find, get-from_sorted}
 use Rattle.cook_bits.specs.Names.{File}
@@ -18,14 +19,6 @@ shown false h = cc
 pub both : (a b : Bool) → a ≡ true → b ≡ true → (a && b) ≡ true
 both true b p q = q
 both false b p q = p
-
-pub left_of : (a b : Bool) → (a && b) ≡ true → a ≡ true
-left_of true b is = refl
-left_of false b is = is
-
-pub right_of : (a b : Bool) → (a && b) ≡ true → b ≡ true
-right_of true b is = is
-right_of false b is = cc
 
 -- files in memory are told
 pub told-is_some : (files : List File) → is_some (told_of files) ≡ true
@@ -49,8 +42,8 @@ told-has files name sorted has = subst (λ (o : Option (List ℕ)). IsSome o) (f
 there-at : (names : List (List ℕ)) (files : List File) (name : List ℕ) (k : ℕ) → AreThere names files → k < length names → slice_index_or names k name ≡ name → IsSome (bytes_in files name)
 unfolding are_there bytes_in
 there-at [] files name k there lt is = absurd (omega arith)
-there-at (other ∷ names) files name zero there lt is = subst (λ (n : List ℕ). IsSome (find byte_order n files)) is (left_of _ _ there)
-there-at (other ∷ names) files name (suc k) there lt is = there-at names files name k (right_of _ _ there) (omega arith) is
+there-at (other ∷ names) files name zero there lt is = subst (λ (n : List ℕ). IsSome (find byte_order n files)) is (and_parts _ _ there).0
+there-at (other ∷ names) files name (suc k) there lt is = there-at names files name k (and_parts _ _ there).1 (omega arith) is
 
 pub pending-found : (names : List (List ℕ)) (files : List File) (name : List ℕ) → AreThere names files → IsPending (Some names) name → IsSome (bytes_in files name)
 unfolding IsPending
