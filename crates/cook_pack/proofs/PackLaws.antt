@@ -1,11 +1,11 @@
 -- Laws of the side data as an attachment, and of a package that is appended in pieces.
 use Rattle.std.proofs.Common.{◌≡◌, ℕ, suc, ◌+◌, ◌*◌, ◌<◌, ◌≤◌, ◌^◌, true, List, [], ◌∷◌, ◌++◌, length, map, All, sum_by, codes, refl, sym, ap, ◌∙◌, subst, arith, append_assoc, length-append, lit≤}
-use Rattle.std.proofs.lemmas.List.{length-map}
 use Rattle.std.proofs.lemmas.List.Sums.{sum_by-cons}
 use Rattle.cook_bits.specs.Names.{File, IsRelativeName, full_name}
 use Rattle.shelf_core.specs.Told.{Told, content}
 use Rattle.reversal.specs.declared.record.FileRecord.{FileRecord}
-use Rattle.reversal.specs.SideData.{AreRecords, AreNames, names_of, side_data_len, side_data_of}
+use Rattle.reversal.specs.SideData.{AreRecords, AreNames, side_data_len, side_data_of}
+use Rattle.reversal.proofs.Lengths.{names_long}
 use Rattle.ebml_core.specs.Element.{element, head_of, uint_element, uint_bytes, size_bytes, shortest_size, byte_count, least_from}
 use Rattle.ebml_core.proofs.Heads.{length-head_of-le}
 use Rattle.cook_pack.specs.Pieces.{attached_head, attached_file, header_bytes, ebml_content, info_content}
@@ -26,9 +26,6 @@ pub side_data_len-le : (names : List (List ℕ)) → All IsRelativeName names �
 unfolding side_data_len
 side_data_len-le names relative few = omega (arith, short_sum names relative)
 
-pub length-names_of : (records : List FileRecord) → length (names_of records) ≡ length records
-length-names_of records = length-map records _
-
 -- the head and the side data are the attachment
 pub side_attached-is : (records : List FileRecord) (head side : List ℕ) (uid len : ℕ) → head ≡ attached_head (codes "cook.rev") true uid len → uid ≡ length records + 1 → len ≡ length side → side ≡ side_data_of records → head ++ side ≡ side_attached records
 side_attached-is records head side uid len is number long spelled =
@@ -44,7 +41,7 @@ names-planned told plan = back plan.names
     back (name ∷ names) = ap (λ rest. name ∷ rest) (back names)
 
 pub length-records : (told : Told) (plan : Planned) (records : List FileRecord) → AreRecordsOf told (planned_files told plan) records → length records ≡ length plan.names
-length-records told plan records of = sym (length-names_of records) ∙ ap length (of.named ∙ names-planned told plan)
+length-records told plan records of = sym (names_long records) ∙ ap length (of.named ∙ names-planned told plan)
 
 -- the records of planned files have a spelling
 pub records-are : (told : Told) (plan : Planned) (records : List FileRecord) → IsSound plan → AreRecordsOf told (planned_files told plan) records → AreRecords records

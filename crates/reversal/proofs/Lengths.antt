@@ -1,12 +1,16 @@
--- The length of side data.
+-- How many names there are, and how long side data is.
 use Rattle.std.proofs.Common.{◌≡◌, ℕ, ◌+◌, List, [], ◌∷◌, ◌++◌, length, All, sum_by, refl, ap, ◌∙◌, arith, length-append}
 use Rattle.std.specs.List.{flat_map, AllByRecursion}
 use Rattle.std.specs.Int.{bytes_high_first}
+use Rattle.std.proofs.lemmas.List.{length-map}
 use Rattle.std.proofs.lemmas.List.Concat.{flat_map-cons}
 use Rattle.std.proofs.lemmas.List.Elements.{recursion_from_All}
 use Rattle.std.proofs.lemmas.List.Sums.{sum_by-cons}
 use Rattle.reversal.specs.declared.record.FileRecord.{FileRecord}
 use Rattle.reversal.specs.SideData.{HasSum, names_of, mark, record_bytes, side_data_of, side_data_len}
+
+pub names_long : (records : List FileRecord) → length (names_of records) ≡ length records
+names_long records = length-map records (λ r. r.name)
 
 record_length : (r : FileRecord) → HasSum r → length (record_bytes r) ≡ 27 + length r.name
 record_length r fits = omega (arith, length-append (bytes_high_first 2 (length r.name) ++ r.name ++ bytes_high_first 8 r.length) r.md5, length-append (bytes_high_first 2 (length r.name) ++ r.name) (bytes_high_first 8 r.length), length-append (bytes_high_first 2 (length r.name)) r.name, fits)

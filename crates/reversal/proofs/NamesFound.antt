@@ -1,12 +1,12 @@
 -- Names of which none is refused are relative, ascend, and none is a folder of another.
-use Rattle.std.proofs.Common.{◌≡◌, ℕ, zero, suc, ◌+◌, ◌<◌, ◌≤◌, Bool, true, false, ◌&&◌, ◌||◌, not, ◌==◌, if◌then◌else◌, List, [], ◌∷◌, ◌++◌, length, get_or, take, drop, All, Option, Some, None, refl, sym, ap, subst, ◌∙◌, inl, inr, arith}
+use Rattle.std.proofs.Common.{◌≡◌, ℕ, zero, suc, ◌+◌, ◌<◌, ◌≤◌, Bool, true, false, ◌&&◌, not, ◌==◌, if◌then◌else◌, List, [], ◌∷◌, ◌++◌, length, get_or, take, drop, All, Option, Some, None, refl, sym, ap, subst, ◌∙◌, inl, inr, arith}
 use Rattle.std.specs.List.{list_any, AllByRecursion}
 use Rattle.std.specs.List.Sorted.{IsSortedByKey}
 use Rattle.std.specs.Ordering.{nat_cmp, is_lt, ordering_then}
 use Rattle.std.specs.declared.cmp.Ordering.{Ordering}
 use Rattle.std.specs.declared.cmp.Ordering.TheVariants.{Less, Equal, Greater}
 use Rattle.std.specs.Cmp.Lexicographic.{slice_cmp, bytes_decides, nat_list_cmp_total}
-use Rattle.std.proofs.lemmas.Bool.{cases_lt}
+use Rattle.std.proofs.lemmas.Bool.{cases_lt, false_from_ne_true, or_parts}
 use Rattle.std.proofs.lemmas.Bool.Decides.{nat_tests}
 use Rattle.std.proofs.lemmas.List.{take-append-drop, take_all, length-drop, get_or-drop, get_or_default, get_or-map}
 use Rattle.std.proofs.lemmas.List.Folds.{list_any-append, list_any_none}
@@ -16,7 +16,8 @@ use Rattle.reversal.specs.declared.record.Kind.TheVariants.{Other}
 use Rattle.reversal.specs.declared.record.FileRecord.{FileRecord}
 use Rattle.reversal.specs.SideData.{names_of, AreNames}
 use Rattle.reversal.specs.SideReading.{is_above_last, is_good_name, first_bad_name, other_record}
-use Rattle.reversal.proofs.NameFaults.{bad_from, bad_start, bad_step, bad_end, map_append, sorted_none, sorted_more, above_before}
+use Rattle.reversal.proofs.Lengths.{names_long}
+use Rattle.reversal.proofs.NameFaults.{bad_from, bad_start, bad_step, bad_end, map_append, sorted_none, sorted_more, above_before, both_false}
 
 -- ---- none is refused from any place on
 
@@ -72,29 +73,18 @@ folders_below (byte ∷ rest) = folders_if (λ folder. slice_cmp nat_cmp folder 
 
 -- ---- so none of the names from a place on is a folder of the name there
 
-is_other : (b : Bool) → (b ≡ true → ⊥) → b ≡ false
-is_other true n = absurd (n refl)
-is_other false n = refl
-
 none_same : (name folder : List ℕ) (others : List (List ℕ)) → All (λ other. is_lt (slice_cmp nat_cmp other name) ≡ false) others → slice_cmp nat_cmp folder name ≡ Less → list_any (is_same_name folder) others ≡ false
-none_same name folder others above below = list_any_none (is_same_name folder) others (λ k d lt. is_other _ (λ e.
+none_same name folder others above below = list_any_none (is_same_name folder) others (λ k d lt. false_from_ne_true _ (λ e.
     let same : folder ≡ get_or others k d = (bytes_decides folder (get_or others k d)).0 e in
     let here : is_lt (slice_cmp nat_cmp (get_or others k d) name) ≡ true = subst (λ (x : List ℕ). is_lt (slice_cmp nat_cmp x name) ≡ true) same (ap is_lt below) in
     let never : true ≡ false = sym here ∙ above k d lt in
     absurd (cc)))
 
-both_false : (a b : Bool) → a ≡ false → b ≡ false → (a || b) ≡ false
-both_false a b e f = rw (e, f) refl
-
-or_false : (a b : Bool) → (a || b) ≡ false → (a ≡ false) × (b ≡ false)
-or_false true b e = absurd (cc)
-or_false false b e = (refl, e)
-
 joined : (name : List ℕ) (before others : List (List ℕ)) (folders : List (List ℕ)) → AllByRecursion (λ folder. slice_cmp nat_cmp folder name ≡ Less) folders → All (λ other. is_lt (slice_cmp nat_cmp other name) ≡ false) others
     → list_any (λ folder. list_any (is_same_name folder) before) folders ≡ false → list_any (λ folder. list_any (is_same_name folder) (before ++ others)) folders ≡ false
 joined name before others [] below above free = refl
 joined name before others (folder ∷ folders) below above free =
-    let parts = or_false (list_any (is_same_name folder) before) (list_any (λ f. list_any (is_same_name f) before) folders) free in
+    let parts = or_parts (list_any (is_same_name folder) before) (list_any (λ f. list_any (is_same_name f) before) folders) free in
     both_false _ _ (list_any-append (is_same_name folder) before others ∙ both_false _ _ parts.0 (none_same name folder others above below.0)) (joined name before others folders below.1 above parts.1)
 
 still_free : (before others : List (List ℕ)) (name : List ℕ) → All (λ other. is_lt (slice_cmp nat_cmp other name) ≡ false) others → holds_folder_of before name ≡ false → holds_folder_of (before ++ others) name ≡ false
@@ -113,10 +103,6 @@ is_less : (o : Ordering) → is_lt o ≡ true → o ≡ Less
 is_less Less e = refl
 is_less Equal e = absurd (cc)
 is_less Greater e = absurd (cc)
-
-names_long : (records : List FileRecord) → length (names_of records) ≡ length records
-names_long [] = refl
-names_long (r ∷ records) = ap suc (names_long records)
 
 module _ (records : List FileRecord) (none : first_bad_name (names_of records) ≡ None) where
   good_parts : (at : ℕ) (d : FileRecord) → at < length records → record { first : is_relative_name (get_or records at d).name ≡ true; second : is_above_last (names_of (take at records)) (get_or records at d).name ≡ true; third : holds_folder_of (names_of (take at records)) (get_or records at d).name ≡ false }

@@ -1,11 +1,11 @@
 -- What was written is read again.
-use Rattle.std.proofs.Common.{◌≡◌, ℕ, zero, suc, ◌+◌, ◌^◌, ◌<◌, Bool, true, false, ◌&&◌, ◌||◌, not, nat_lt, List, [], ◌∷◌, ◌++◌, length, get_or, take, drop, All, None, Ok, IsUtf8, refl, sym, ap, subst, ◌∙◌, append_assoc, length-append, arith}
+use Rattle.std.proofs.Common.{◌≡◌, ℕ, zero, suc, ◌+◌, ◌^◌, ◌<◌, Bool, true, false, ◌&&◌, not, nat_lt, List, [], ◌∷◌, ◌++◌, length, get_or, take, drop, All, None, Ok, IsUtf8, refl, sym, ap, subst, ◌∙◌, append_assoc, length-append, arith}
 use Rattle.std.specs.List.{flat_map, list_any, AllByRecursion}
 use Rattle.std.specs.Int.{bytes_high_first}
 use Rattle.std.specs.Ordering.{nat_cmp, is_lt}
 use Rattle.std.specs.declared.cmp.Ordering.TheVariants.{Less}
 use Rattle.std.specs.Cmp.Lexicographic.{slice_cmp}
-use Rattle.std.proofs.lemmas.Bool.{le-ltb}
+use Rattle.std.proofs.lemmas.Bool.{le-ltb, or_parts}
 use Rattle.std.proofs.lemmas.List.{take_at, drop_at, append-nil, take-append-drop, length-take, get_or-take, get_or_default}
 use Rattle.std.proofs.lemmas.List.Concat.{flat_map-cons}
 use Rattle.std.proofs.lemmas.List.Elements.{recursion_from_All}
@@ -18,7 +18,8 @@ use Rattle.reversal.specs.declared.record.FileRecord.{FileRecord}
 use Rattle.reversal.specs.SideData.{names_of, mark, record_bytes, side_data_of, HasShape, FitsTypes, AreNames, AreRecords}
 use Rattle.reversal.specs.SideReading.{piece_at, number_at, name_at, other_record, record_at, records_at, mark_at, side_at, side_read, is_above_last, is_good_name, first_bad_name}
 use Rattle.reversal.proofs.Texts.{good_text}
-use Rattle.reversal.proofs.NameFaults.{last_decides, bad_from, bad_start, bad_later, bad_end, map_append}
+use Rattle.reversal.proofs.Lengths.{names_long}
+use Rattle.reversal.proofs.NameFaults.{last_decides, bad_from, bad_start, bad_later, bad_end, map_append, both_false}
 
 -- ---- fields
 
@@ -71,22 +72,12 @@ side_again records are fits =
 
 -- ---- names
 
-or_false : (a b : Bool) → (a || b) ≡ false → a ≡ false
-or_false true b e = e
-or_false false b e = refl
-
-or_false_last : (a b : Bool) → (a || b) ≡ false → b ≡ false
-or_false_last true b e = absurd (cc)
-or_false_last false b e = e
-
-both_false : (a b : Bool) → a ≡ false → b ≡ false → (a || b) ≡ false
-both_false a b e f = rw (e, f) refl
-
 fewer : (xs ys folders : List (List ℕ)) → list_any (λ folder. list_any (is_same_name folder) (xs ++ ys)) folders ≡ false → list_any (λ folder. list_any (is_same_name folder) xs) folders ≡ false
 fewer xs ys [] e = refl
 fewer xs ys (folder ∷ folders) e =
-    let here = or_false (list_any (is_same_name folder) (xs ++ ys)) _ e in
-    both_false _ _ (or_false _ _ (sym (list_any-append (is_same_name folder) xs ys) ∙ here)) (fewer xs ys folders (or_false_last (list_any (is_same_name folder) (xs ++ ys)) _ e))
+    let parts = or_parts (list_any (is_same_name folder) (xs ++ ys)) (list_any (λ f. list_any (is_same_name f) (xs ++ ys)) folders) e in
+    let front = or_parts (list_any (is_same_name folder) xs) (list_any (is_same_name folder) ys) (sym (list_any-append (is_same_name folder) xs ys) ∙ parts.0) in
+    both_false _ _ front.0 (fewer xs ys folders parts.1)
 
 fewer_hold : (xs ys : List (List ℕ)) (name : List ℕ) → holds_folder_of (xs ++ ys) name ≡ false → holds_folder_of xs name ≡ false
 unfolding holds_folder_of
@@ -96,10 +87,6 @@ name_at_place : (records : List FileRecord) (at : ℕ) (d : FileRecord) → get_
 name_at_place [] at d = refl
 name_at_place (r ∷ records) zero d = refl
 name_at_place (r ∷ records) (suc at) d = name_at_place records at d
-
-names_long : (records : List FileRecord) → length (names_of records) ≡ length records
-names_long [] = refl
-names_long (r ∷ records) = ap suc (names_long records)
 
 all_good : (a b c : Bool) → a ≡ true → b ≡ true → c ≡ false → (a && (b && not c)) ≡ true
 all_good a b c e f g = rw (e, f, g) refl

@@ -1,6 +1,7 @@
 -- A text is the bytes of one.
-use Rattle.std.proofs.Common.{◌≡◌, ℕ, Bool, true, false, if◌then◌else◌, List, Result, Ok, Err, refl, sym, ap, ◌∙◌, IsUtf8}
+use Rattle.std.proofs.Common.{◌≡◌, ℕ, Bool, if◌then◌else◌, List, Result, Ok, Err, sym, ap, ◌∙◌, IsUtf8}
 use Rattle.std.specs.Str.{is_utf8}
+use Rattle.std.proofs.lemmas.Bool.{false_from_ne_true}
 use Rattle.std.proofs.lemmas.Str.{is_utf8-from_IsUtf8, IsUtf8-from_is_utf8}
 use Rattle.reversal.specs.SideReading.{text_at}
 
@@ -11,13 +12,9 @@ pub good_text : (left : ℕ) (bytes : List ℕ) → IsUtf8 bytes → text_at lef
 unfolding pick
 good_text left bytes text = ap (pick left bytes) (is_utf8-from_IsUtf8 bytes text)
 
-is_false : (b : Bool) → (b ≡ true → ⊥) → b ≡ false
-is_false true n = absurd (n refl)
-is_false false n = refl
-
 pub bad_text : (left : ℕ) (bytes : List ℕ) → (IsUtf8 bytes → ⊥) → text_at left bytes ≡ Err left
 unfolding pick
-bad_text left bytes none = ap (pick left bytes) (is_false (is_utf8 bytes) (λ e. none (IsUtf8-from_is_utf8 bytes e)))
+bad_text left bytes none = ap (pick left bytes) (false_from_ne_true (is_utf8 bytes) (λ e. none (IsUtf8-from_is_utf8 bytes e)))
 
 as_ok : List ℕ → Result (List ℕ) ℕ
 as_ok bytes = Ok bytes

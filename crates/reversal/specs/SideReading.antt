@@ -125,13 +125,6 @@ placed len (Err left) = Err (side.SideBad (len - left))
 unfoldable pub side_read : List ℕ → Result (List FileRecord) SideError
 side_read bytes = placed (length bytes) (side_at bytes)
 
-abbrev pub error_of : Result (List FileRecord) SideError → Option SideError
-error_of (Ok records) = None
-error_of (Err e) = Some e
-
-abbrev pub side_fault_of : List ℕ → Option SideError
-side_fault_of bytes = error_of (side_read bytes)
-
 -- what was answered is what reading gives, unless memory ran out
 abbrev pub FailsSide : SideError → Result (List FileRecord) SideError → Type 0
 FailsSide side.NoMemory read = Unit {0}

@@ -2,9 +2,10 @@ use Rattle.std.proofs.Common.{◌≡◌, ◌++◌, length, refl, ap, subst, ◌�
 use Rattle.shelf_core.specs.Told.{GrewPartly, grown}
 use Rattle.shelf_core.proofs.PieceLaws.{GrewPartly-nothing}
 use Rattle.reversal.specs.SideData.{names_of, side_data_len}
+use Rattle.reversal.proofs.Lengths.{names_long}
 use Rattle.cook_pack.specs.Package.{side_attached}
 use Rattle.cook_pack.proofs.AttachLaws.{on_err}
-use Rattle.cook_pack.proofs.PackLaws.{side_data_len-le, length-names_of, side_attached-is}
+use Rattle.cook_pack.proofs.PackLaws.{side_data_len-le, side_attached-is}
 use Rattle.cook_pack.proofs.packing.attach_side.Goals as goal
 
 pub returns-in_err-side-clause-stopped : goal.returns-in_err-side-clause-stopped
@@ -12,7 +13,7 @@ returns-in_err-side-clause-stopped g c = on_err _ (GrewPartly-nothing _ _ _ _ c.
 
 pub attached_head-requires-clause-content : goal.attached_head-requires-clause-content
 attached_head-requires-clause-content g c =
-    let short = side_data_len-le (names_of c.args.records.now) c.requires.are.named.relative (omega (arith, length-names_of c.args.records.now, c.requires.few)) in
+    let short = side_data_len-le (names_of c.args.records.now) c.requires.are.named.relative (omega (arith, names_long c.args.records.now, c.requires.few)) in
     let long : length c.as_slice.result.now ≡ side_data_len (names_of c.args.records.now) = ap length c.as_slice.ensures ∙ c.in_ok-side.ensures.long in
     omega (arith, short, long)
 
