@@ -1,6 +1,6 @@
 -- Laws of a window on a file: what its bytes say of the file's.
 use Rattle.std.proofs.Common.{◌≡◌, ℕ, ◌+◌, ◌-◌, ◌<◌, ◌≤◌, nat_le, nat_eq, Bool, true, false, min, List, length, take, drop, Option, Some, None, IfSome, refl, sym, ap, ◌∙◌, arith, length-take, length-drop}
-use Rattle.std.proofs.lemmas.Bool.{leb-true, leb-false}
+use Rattle.std.proofs.lemmas.Bool.{leb-true, leb-false, false_from_ne_true}
 use Rattle.std.proofs.lemmas.List.{take-take, drop-take, drop-drop}
 use Rattle.std.specs.Cmp.Lexicographic.{as_long}
 use Rattle.ebml_core.specs.Reading.{head_at}
@@ -54,15 +54,12 @@ Sees-head (Some bytes) from place end room held part head holds low high is befo
 length-between : (from to : ℕ) (bytes : List ℕ) → from ≤ to → to ≤ length bytes → length (between from to bytes) ≡ to - from
 length-between from to bytes before within = omega (arith, length-take (to - from) (drop from bytes), length-drop from bytes)
 
-is_false : (b : Bool) → (b ≡ true → ⊥) → b ≡ false
-is_false b refuted = elim b as (λ (t : Bool). (t ≡ true → ⊥) → t ≡ false) [ true ↦ λ not_true. absurd (not_true refl) | false ↦ λ not_true. refl ] refuted
-
 -- a text of another length isn't there
 pub Sees-other_text : (known : Seen) (text : List ℕ) (from to len : ℕ) → Sees known length len → from ≤ to → to ≤ len → (to - from ≡ length text → ⊥) → Sees known (is_text_between text from to) false
 unfolding is_text_between
 Sees-other_text known text from to len sees before within other =
     Sees-so known length len (is_text_between text from to) false sees
-    (λ bytes count. is_false _ (λ same. other (sym (length-between from to bytes before (omega arith)) ∙ as_long nat_eq (between from to bytes) text same)))
+    (λ bytes count. false_from_ne_true _ (λ same. other (sym (length-between from to bytes before (omega arith)) ∙ as_long nat_eq (between from to bytes) text same)))
 
 pub Sees-text : (known : Seen) (text part : List ℕ) (from to : ℕ) (same : Bool) → Sees known (between from to) part → same ≡ is_same_text part text → Sees known (is_text_between text from to) same
 unfolding is_text_between
@@ -77,7 +74,7 @@ Sees-number known bounds child part understood sees tested =
     Sees-so known (between child.start child.end) part (is_number_understood bounds child) understood sees (λ bytes e. ap (λ (l : List ℕ). is_understood bounds l) e ∙ sym tested)
 
 too_long : (n : ℕ) → 8 < n → nat_le n 8 ≡ false
-too_long n h = is_false _ (λ e. let low : n ≤ 8 = leb-true n 8 e in absurd (omega arith))
+too_long n h = false_from_ne_true _ (λ e. let low : n ≤ 8 = leb-true n 8 e in absurd (omega arith))
 
 -- a number of more than eight bytes isn't understood
 pub Sees-long_number : (known : Seen) (bounds : Bounds) (child : Element) (len : ℕ) → Sees known length len → child.start ≤ child.end → child.end ≤ len → 8 < child.end - child.start → Sees known (is_number_understood bounds child) false

@@ -179,7 +179,7 @@ unfolding IsTold
 untold-same None now after pkg dir restorer sum way same untold = same ∙ way.files ∙ with_files-untold dir _
 untold-same (Some held) now after pkg dir restorer sum way same untold = absurd (untold tt)
 
-nothing_more : (told now after : Told) (pkg dir : List ℕ) (before : Restorer) (sum : RestoreSum) → IsUnderWay told now pkg dir before sum → after ≡ now → IsUnfinished told after pkg dir
+pub nothing_more : (told now after : Told) (pkg dir : List ℕ) (before : Restorer) (sum : RestoreSum) → IsUnderWay told now pkg dir before sum → after ≡ now → IsUnfinished told after pkg dir
 unfolding IsTold
 nothing_more None now after pkg dir before sum way same = inl (same ∙ way.files ∙ with_files-untold dir _)
 nothing_more (Some held) now after pkg dir before sum way same = inr (record {
@@ -222,6 +222,3 @@ cut_short (Some held) now after pending pending_after pkg dir before sum way par
 pub unfinished : (told now after : Told) (pending pending_after : Pending) (pkg dir : List ℕ) (before : Restorer) (sum : RestoreSum) → IsUnderWay told now pkg dir before sum → LeavesNext now after pending pending_after before → IsUnfinished told after pkg dir
 unfinished told now after pending pending_after pkg dir before sum way (inl nothing) = nothing_more told now after pkg dir before sum way nothing.files
 unfinished told now after pending pending_after pkg dir before sum way (inr partly) = cut_short told now after pending pending_after pkg dir before sum way partly
-
-pub unfinished-same : (told now after : Told) (pkg dir : List ℕ) (before : Restorer) (sum : RestoreSum) → IsUnderWay told now pkg dir before sum → after ≡ now → IsUnfinished told after pkg dir
-unfinished-same = nothing_more

@@ -22,17 +22,17 @@ use Rattle.cook_restore.specs.declared.error.FileError.{FileError}
 use Rattle.cook_restore.specs.declared.error.FileError.TheVariants as ungiven
 use Rattle.cook_restore.specs.declared.error.PackageWhy.TheVariants as broken
 use Rattle.cook_restore.specs.declared.restorer.Restorer.{Restorer}
-use Rattle.cook_top.specs.Laws.{KeepsUnsealed, IsShown, IsDoneOr, IsWritten, Reports, report_of, text_of}
+use Rattle.cook_top.specs.Laws.{IsShown, IsDoneOr, IsWritten, Reports, report_of, text_of}
 use Rattle.cook_top.specs.Orders.{Order}
 use Rattle.cook_top.specs.Orders.Order.{Restore}
 use Rattle.cook_top.specs.RestoreLaw.{RestoreLaw, IsRestored, IsFirstUnder, meant, total_length}
-use Rattle.cook_top.specs.Restoring.{is_below, IsFirstName, IsNoTarget, IsNumbered, IsStatusOf, IsSumOf, IsUndone}
+use Rattle.cook_top.specs.Restoring.{is_below, IsFirstName, IsStatusOf, IsSumOf, IsUndone}
 use Rattle.cook_top.specs.Statuses.{status_of_restore_error}
 use Rattle.cook_top.specs.Texts.{line_of, restore_line}
 use Rattle.cook_top.specs.declared.restore.RestoreSum.{RestoreSum}
 use Rattle.cook_top.specs.declared.status.Status.{Status}
 use Rattle.cook_top.specs.declared.status.Status.TheVariants.{Done, Usage, Refused, PackageRefused, InTheWay, ShelfFault, NoMemory, ReportFault, Changed, Missing}
-use Rattle.cook_top.proofs.GivingLaws.{IsUnderWay, told_now, fits_now, restored-ends, not_in_the_way, untold-same, unfinished, unfinished-same, with_files-untold}
+use Rattle.cook_top.proofs.GivingLaws.{IsUnderWay, told_now, fits_now, restored-ends, not_in_the_way, untold-same, unfinished, nothing_more, with_files-untold}
 
 -- ---- the target
 
@@ -65,25 +65,6 @@ occupied_target told dir name entries listed first known =
     let there : IsFirstName (plain_entries (under told dir)) name = subst (λ (es : List Entry). IsFirstName es name) (listed known) first in
     first_at told dir name there.place (under told dir) no_entry refl there.first (there.named no_entry)
 
-pub law_no_target : (told after : Told) (pkg dir : List ℕ) (faults faults_now : ℕ) (status : Status) → IsNoTarget told dir faults faults_now status → after ≡ told → RestoreLaw told after pkg dir status
-law_no_target told after pkg dir faults faults_now (InTheWay name) is same = record { first = is; files = same }
-law_no_target told after pkg dir faults faults_now ShelfFault is same = inl same
-law_no_target told after pkg dir faults faults_now NoMemory is same = inl same
-law_no_target told after pkg dir faults faults_now status is same = absurd is
-
-pub shown_no_target : (told : Told) (pkg dir : List ℕ) (faults faults_now sink sink_now : ℕ) (status : Status) → IsNoTarget told dir faults faults_now status → IsShown (Some (Restore pkg dir)) told faults faults_now sink sink_now status
-shown_no_target told pkg dir faults faults_now sink sink_now (InTheWay name) is = tt
-shown_no_target told pkg dir faults faults_now sink sink_now ShelfFault is = is
-shown_no_target told pkg dir faults faults_now sink sink_now NoMemory is = tt
-shown_no_target told pkg dir faults faults_now sink sink_now status is = absurd is
-
--- what is as before is sealed as it was
-pub unsealed-same : (pending after : Pending) (status : Status) → after ≡ pending → KeepsUnsealed pending after status
-unsealed-same pending after ShelfFault same = tt
-unsealed-same pending after NoMemory same = tt
-unsealed-same pending after (Changed name was now) same = tt
-unsealed-same pending after status same = same
-
 -- ---- the package was not opened
 
 nothing_given : (told : Told) (dir : List ℕ) (meaning : Meaning) (why : PackageWhy) → (IsTold told → meaning ≡ nothing_for why) → told ≡ with_files told dir meaning.files
@@ -103,22 +84,7 @@ law_unopened told after pkg dir faults faults_now (unopened.Changed name was now
 law_unopened told after pkg dir faults faults_now unopened.Failed empty is same = inl same
 law_unopened told after pkg dir faults faults_now unopened.NoMemory empty is same = inl same
 
-pub shown_unopened : (told : Told) (pkg dir : List ℕ) (faults faults_now sink sink_now : ℕ) (error : RestoreError) → IsNotOpened told pkg faults faults_now error
-    → IsShown (Some (Restore pkg dir)) told faults faults_now sink sink_now (status_of_restore_error error)
-shown_unopened told pkg dir faults faults_now sink sink_now (unopened.Package why) is = tt
-shown_unopened told pkg dir faults faults_now sink sink_now (unopened.Missing name) is = tt
-shown_unopened told pkg dir faults faults_now sink sink_now (unopened.Changed name was now) is = (is.1, is.2)
-shown_unopened told pkg dir faults faults_now sink sink_now unopened.Failed is = is
-shown_unopened told pkg dir faults faults_now sink sink_now unopened.NoMemory is = tt
-
 -- ---- a file was not given
-
-pub numbered : (now after : Told) (pending pending_after : Pending) (faults faults_now : ℕ) (before restorer : Restorer) (error : FileError) → IsNotGiven now after pending pending_after faults faults_now before error → KeepsPackage before restorer → IsNumbered restorer error
-numbered now after pending pending_after faults faults_now before restorer (ungiven.File number why) is kept = omega (arith, is.next.next, is.next.within, ap length kept.records)
-numbered now after pending pending_after faults faults_now before restorer (ungiven.InTheWay number) is kept = omega (arith, is.next.next, is.next.within, ap length kept.records)
-numbered now after pending pending_after faults faults_now before restorer (ungiven.Changed was has) is kept = tt
-numbered now after pending pending_after faults faults_now before restorer ungiven.Failed is kept = tt
-numbered now after pending pending_after faults faults_now before restorer ungiven.NoMemory is kept = tt
 
 name_kept : (before restorer : Restorer) (number : ℕ) → KeepsPackage before restorer → number ≡ before.number → name_at restorer number ≡ next_name before
 name_kept before restorer number kept next = λ i. get_or (names_of (kept.records i)) (next i) []
@@ -134,20 +100,10 @@ law_ungiven told now after pending pending_after pkg dir faults faults_now befor
 }
 law_ungiven told now after pending pending_after pkg dir faults faults_now before restorer sum (ungiven.Changed was has) (Changed name had left) way is kept said =
     λ known. is.untold (told_now told now pkg dir before sum way known) (fits_now told now pkg dir before sum way known)
-law_ungiven told now after pending pending_after pkg dir faults faults_now before restorer sum (ungiven.Changed was has) NoMemory way is kept said = unfinished-same told now after pkg dir before sum way is.files
+law_ungiven told now after pending pending_after pkg dir faults faults_now before restorer sum (ungiven.Changed was has) NoMemory way is kept said = nothing_more told now after pkg dir before sum way is.files
 law_ungiven told now after pending pending_after pkg dir faults faults_now before restorer sum ungiven.Failed ShelfFault way is kept said = unfinished told now after pending pending_after pkg dir before sum way is.1
 law_ungiven told now after pending pending_after pkg dir faults faults_now before restorer sum ungiven.NoMemory NoMemory way is kept said = unfinished told now after pending pending_after pkg dir before sum way is
 law_ungiven told now after pending pending_after pkg dir faults faults_now before restorer sum error status way is kept said = absurd said
-
-pub unsealed_ungiven : (now after : Told) (pending pending_after : Pending) (pkg : List ℕ) (faults faults_now : ℕ) (before restorer : Restorer) (error : FileError) (status : Status)
-    → IsNotGiven now after pending pending_after faults faults_now before error → IsStatusOf restorer pkg error status → KeepsUnsealed pending pending_after status
-unsealed_ungiven now after pending pending_after pkg faults faults_now before restorer (ungiven.File number why) (PackageRefused fault) is said = is.unsealed
-unsealed_ungiven now after pending pending_after pkg faults faults_now before restorer (ungiven.InTheWay number) (InTheWay name) is said = is.unsealed
-unsealed_ungiven now after pending pending_after pkg faults faults_now before restorer (ungiven.Changed was has) (Changed name had left) is said = tt
-unsealed_ungiven now after pending pending_after pkg faults faults_now before restorer (ungiven.Changed was has) NoMemory is said = tt
-unsealed_ungiven now after pending pending_after pkg faults faults_now before restorer ungiven.Failed ShelfFault is said = tt
-unsealed_ungiven now after pending pending_after pkg faults faults_now before restorer ungiven.NoMemory NoMemory is said = tt
-unsealed_ungiven now after pending pending_after pkg faults faults_now before restorer error status is said = absurd said
 
 pub shown_ungiven : (told now after : Told) (pending pending_after : Pending) (pkg dir : List ℕ) (faults faults_then faults_now sink sink_now : ℕ) (before restorer : Restorer) (sum : RestoreSum) (error : FileError) (status : Status)
     → IsUnderWay told now pkg dir before sum → faults ≤ faults_then → IsNotGiven now after pending pending_after faults_then faults_now before error → IsStatusOf restorer pkg error status
