@@ -48,7 +48,7 @@ frames-are-their-parts decide formed in_files bounded read layout file is bytes 
     let wf : IsWellFormed layout = formed file (length file) layout is in
     let in_file : InFile (length file) layout = in_files file (length file) layout is in
     let image_len : length (image_in layout file) ≡ image_size layout = image-len layout file in_file.whole in
-    let parts : TakesApart layout (image_in layout file) = takes-apart layout (image_in layout file) wf image_len (image-bytes layout file bytes) in
+    let parts : TakesApart layout (image_in layout file) = takes-apart bounded layout (image_in layout file) wf image_len (image-bytes layout file bytes) in
     record {
       image_len = image_len;
       parts = parts;

@@ -6,6 +6,7 @@ use Rattle.std.proofs.Math.Nat.{mul-le-mul_right}
 use Rattle.cook_bits.specs.Bits.{AreBytes}
 use Rattle.dpx_header.specs.declared.layout_type.Layout.{Layout}
 use Rattle.dpx_header.specs.Layout.{IsWellFormed, pads_in_line, image_size, sample_count, pad_count}
+use Rattle.dpx_header.specs.Laws.{LayoutsAreBounded}
 use Rattle.dpx_packing.specs.Blocks.{Form, of_blocks, repeated, EachFits}
 use Rattle.dpx_packing.specs.Units.{unit_of, units_in_line, pad_limit, AreBelow, FitUnit}
 use Rattle.dpx_packing.specs.FrameParts.{spare_of, line_of, frame_of, pads_of_line, samples_of, pads_of, image_of, SamplesFit, PadsFit}
@@ -75,21 +76,21 @@ line-len size height y image long low =
     let e : length (drop (y * size) image) ≡ length image - y * size = length-drop (y * size) image in
     length-take-le size (drop (y * size) image) (omega arith)
 
-pub samples-fit : (layout : Layout) (image : List ℕ) → IsWellFormed layout → length image ≡ image_size layout
+pub samples-fit : LayoutsAreBounded → (layout : Layout) (image : List ℕ) → IsWellFormed layout → length image ≡ image_size layout
     → AreBytes image → SamplesFit layout (samples_of layout image)
 unfolding SamplesFit samples_of
-samples-fit layout image wf long bytes =
+samples-fit bounded layout image wf long bytes =
     All-of_blocks (λ b. b < 256) (λ s. s < 2 ^ layout.bits) (line_of layout).samples_of (line_of layout).bytes (line-samples-below layout wf) layout.height
-    image (long ∙ (frame-numbers layout wf).bytes) (are-below image bytes)
+    image (long ∙ (frame-numbers bounded layout wf).bytes) (are-below image bytes)
 
-pub pads-fit : (layout : Layout) (image : List ℕ) → IsWellFormed layout → length image ≡ image_size layout
+pub pads-fit : LayoutsAreBounded → (layout : Layout) (image : List ℕ) → IsWellFormed layout → length image ≡ image_size layout
     → AreBytes image → PadsFit layout (pads_of layout image)
 unfolding PadsFit pads_of
-pads-fit layout image wf long bytes y y_low =
+pads-fit bounded layout image wf long bytes y y_low =
     let line : Form = line_of layout in
     let in_line : ℕ = pads_in_line layout.bits layout.width in
-    let numbers : LineNumbers layout = line-numbers layout wf in
-    let exact : length image ≡ layout.height * line.bytes = long ∙ (frame-numbers layout wf).bytes in
+    let numbers : LineNumbers layout = line-numbers bounded layout wf in
+    let exact : length image ≡ layout.height * line.bytes = long ∙ (frame-numbers bounded layout wf).bytes in
     let part : List ℕ = take line.bytes (drop (y * line.bytes) image) in
     let part_below : AreBelow 256 part =
     All-take (λ b. b < 256) line.bytes (drop (y * line.bytes) image) (All-drop (λ b. b < 256) (y * line.bytes) image (are-below image bytes)) in
@@ -114,14 +115,14 @@ part-at part size width count stride wide y image each size_is width_is long low
     subst (λ n. take n (drop (y * n) (of_blocks part size count image)) ≡ part (take stride (drop (y * stride) image))) width_is
     (of_blocks-at part size width each count y image long low ∙ ap (λ n. part (take n (drop (y * n) image))) size_is)
 
-pub line-at : (layout : Layout) (image : List ℕ) (y : ℕ) → IsWellFormed layout → length image ≡ image_size layout
+pub line-at : LayoutsAreBounded → (layout : Layout) (image : List ℕ) (y : ℕ) → IsWellFormed layout → length image ≡ image_size layout
     → y < layout.height → IsLineAt layout image y
 unfolding samples_of pads_of
-line-at layout image y wf long low =
+line-at bounded layout image y wf long low =
     let line : Form = line_of layout in
-    let numbers : LineNumbers layout = line-numbers layout wf in
+    let numbers : LineNumbers layout = line-numbers bounded layout wf in
     let rounds : Rounds (line_of layout) (FitsLine layout) = line-rounds layout wf in
-    let exact : length image ≡ layout.height * line.bytes = long ∙ (frame-numbers layout wf).bytes in
+    let exact : length image ≡ layout.height * line.bytes = long ∙ (frame-numbers bounded layout wf).bytes in
     record {
       samples = part-at line.samples_of line.bytes line.samples layout.height layout.stride (3 * layout.width) y image rounds.samples_len numbers.bytes numbers.samples exact low;
       pads = part-at line.pads_of line.bytes line.pads layout.height layout.stride (pads_of_line layout) y image rounds.pads_len numbers.bytes numbers.pads exact low;
@@ -129,34 +130,34 @@ line-at layout image y wf long low =
 
 -- ---- the rounds
 
-pub takes-apart : (layout : Layout) (image : List ℕ) → IsWellFormed layout → length image ≡ image_size layout
+pub takes-apart : LayoutsAreBounded → (layout : Layout) (image : List ℕ) → IsWellFormed layout → length image ≡ image_size layout
     → AreBytes image → TakesApart layout image
 unfolding samples_of pads_of image_of
-takes-apart layout image wf long bytes =
-    let numbers : FrameNumbers layout = frame-numbers layout wf in
+takes-apart bounded layout image wf long bytes =
+    let numbers : FrameNumbers layout = frame-numbers bounded layout wf in
     let rounds : Rounds (frame_of layout) (EachFits (FitsLine layout) (line_of layout) layout.height) = frame-rounds layout wf in
     let exact : length image ≡ (frame_of layout).bytes = long ∙ numbers.bytes in
     record {
       sample_len = rounds.samples_len image exact ∙ sym numbers.samples;
       pad_len = rounds.pads_len image exact ∙ sym numbers.pads;
-      samples_fit = samples-fit layout image wf long bytes;
-      pads_fit = pads-fit layout image wf long bytes;
+      samples_fit = samples-fit bounded layout image wf long bytes;
+      pads_fit = pads-fit bounded layout image wf long bytes;
       whole = rounds.whole image exact (are-below image bytes);
     }
 
-pub puts-together : (layout : Layout) (samples pads : List ℕ) → IsWellFormed layout
+pub puts-together : LayoutsAreBounded → (layout : Layout) (samples pads : List ℕ) → IsWellFormed layout
     → length samples ≡ sample_count layout → length pads ≡ pad_count layout → SamplesFit layout samples
     → PadsFit layout pads → PutsTogether layout samples pads
 unfolding samples_of pads_of image_of SamplesFit PadsFit
-puts-together layout samples pads wf sample_len pad_len samples_fit pads_fit =
-    let numbers : FrameNumbers layout = frame-numbers layout wf in
+puts-together bounded layout samples pads wf sample_len pad_len samples_fit pads_fit =
+    let numbers : FrameNumbers layout = frame-numbers bounded layout wf in
     let rounds : Rounds (frame_of layout) (EachFits (FitsLine layout) (line_of layout) layout.height) = frame-rounds layout wf in
     let samples_exact : length samples ≡ (frame_of layout).samples = sample_len ∙ numbers.samples in
     let pads_exact : length pads ≡ (frame_of layout).pads = pad_len ∙ numbers.pads in
     let unit : Form = unit_of layout.big layout.bits in
     let fits : EachFits (FitsLine layout) (line_of layout) layout.height samples pads =
     each-line-fits (FitUnit (2 ^ layout.bits) (pad_limit layout.bits)) unit (units_in_line layout.bits layout.width) (spare_of layout) (2 ^ layout.bits) (pad_limit layout.bits) layout.height (pads_in_line layout.bits layout.width) (pads_of_line layout) samples pads
-    (λ s p f. f) (units-fill layout.big layout.width layout.bits wf.depth).pads (line-numbers layout wf).pads samples_fit pads_fit in
+    (λ s p f. f) (units-fill layout.big layout.width layout.bits wf.depth).pads (line-numbers bounded layout wf).pads samples_fit pads_fit in
     record {
       image_len = rounds.bytes_len samples pads samples_exact pads_exact ∙ sym numbers.bytes;
       same_samples = rounds.samples samples pads samples_exact pads_exact fits;

@@ -3,7 +3,7 @@ use Rattle.std.proofs.Common.{◌≡◌, ℕ, ◌+◌, ◌-◌, ◌*◌, ◌≤�
 use Rattle.std.proofs.lemmas.Bool.Decides.{nat_tests}
 use Rattle.dpx_header.specs.declared.layout_type.Layout.{Layout}
 use Rattle.dpx_header.specs.Layout.{IsWellFormed, is_depth, line_len, pads_in_line, image_size, sample_count, pad_count}
-use Rattle.dpx_header.proofs.Bounds.{bounds}
+use Rattle.dpx_header.specs.Laws.{LayoutsAreBounded}
 use Rattle.dpx_packing.specs.Blocks.{Form, repeated, with_spare, HaveLengths}
 use Rattle.dpx_packing.specs.Units.{unit_of, units_in_line}
 use Rattle.dpx_packing.specs.FrameParts.{spare_of, line_of, frame_of, pads_of_line, samples_of, pads_of, image_of}
@@ -40,10 +40,10 @@ pub record LineNumbers (layout : Layout) : Type 0 where
   pub samples : (line_of layout).samples ≡ 3 * layout.width
   pub pads : (line_of layout).pads ≡ pads_of_line layout
 
-pub line-numbers : (layout : Layout) → IsWellFormed layout → LineNumbers layout
-line-numbers layout wf =
+pub line-numbers : LayoutsAreBounded → (layout : Layout) → IsWellFormed layout → LineNumbers layout
+line-numbers bounded layout wf =
     let fill : UnitsFill layout.big layout.width layout.bits = units-fill layout.big layout.width layout.bits wf.depth in
-    let low : line_len layout.bits layout.width ≤ layout.stride = (bounds layout wf).line_low in
+    let low : line_len layout.bits layout.width ≤ layout.stride = (bounded layout wf).line_low in
     record {
       bytes = ap (λ n. n + (layout.stride - line_len layout.bits layout.width)) fill.bytes ∙ omega arith;
       samples = fill.samples;
@@ -56,9 +56,9 @@ pub record FrameNumbers (layout : Layout) : Type 0 where
   pub samples : sample_count layout ≡ (frame_of layout).samples
   pub pads : pad_count layout ≡ (frame_of layout).pads
 
-pub frame-numbers : (layout : Layout) → IsWellFormed layout → FrameNumbers layout
-frame-numbers layout wf =
-    let numbers : LineNumbers layout = line-numbers layout wf in
+pub frame-numbers : LayoutsAreBounded → (layout : Layout) → IsWellFormed layout → FrameNumbers layout
+frame-numbers bounded layout wf =
+    let numbers : LineNumbers layout = line-numbers bounded layout wf in
     let by_lines : layout.stride * layout.height ≡ layout.height * layout.stride = omega arith in
     let samples_by_lines : 3 * layout.width * layout.height ≡ layout.height * (3 * layout.width) = omega arith in
     record {
@@ -67,11 +67,11 @@ frame-numbers layout wf =
       pads = ap (λ n. layout.height * n) (sym numbers.pads);
     }
 
-pub frame-lengths : (layout : Layout) (image samples pads : List ℕ) → IsWellFormed layout
+pub frame-lengths : LayoutsAreBounded → (layout : Layout) (image samples pads : List ℕ) → IsWellFormed layout
     → length image ≡ image_size layout → length samples ≡ sample_count layout → length pads ≡ pad_count layout
     → HaveLengths (frame_of layout) image samples pads
-frame-lengths layout image samples pads wf image_len sample_len pad_len =
-    let numbers : FrameNumbers layout = frame-numbers layout wf in
+frame-lengths bounded layout image samples pads wf image_len sample_len pad_len =
+    let numbers : FrameNumbers layout = frame-numbers bounded layout wf in
     record { of_bytes = image_len ∙ numbers.bytes; of_samples = sample_len ∙ numbers.samples; of_pads = pad_len ∙ numbers.pads }
 
 -- a line over the layout's unit, units and spare bytes is the layout's line
@@ -99,8 +99,8 @@ unfolding image_of
 image-is layout form samples pads is = ap (λ f. (repeated f layout.height).bytes_of samples pads) is
 
 -- the lengths of an image, its samples and its pads are those of lines of the form
-pub lengths-are : (layout : Layout) (form : Form) (image samples pads : List ℕ) → form ≡ line_of layout
+pub lengths-are : LayoutsAreBounded → (layout : Layout) (form : Form) (image samples pads : List ℕ) → form ≡ line_of layout
     → IsWellFormed layout → length image ≡ image_size layout → length samples ≡ sample_count layout
     → length pads ≡ pad_count layout → HaveLengths (repeated form layout.height) image samples pads
-lengths-are layout form image samples pads is wf image_len sample_len pad_len =
-    subst (λ f. HaveLengths (repeated f layout.height) image samples pads) (sym is) (frame-lengths layout image samples pads wf image_len sample_len pad_len)
+lengths-are bounded layout form image samples pads is wf image_len sample_len pad_len =
+    subst (λ f. HaveLengths (repeated f layout.height) image samples pads) (sym is) (frame-lengths bounded layout image samples pads wf image_len sample_len pad_len)

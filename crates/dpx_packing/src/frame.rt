@@ -10,6 +10,7 @@ use crate::blocks::{Block, join_blocks, split_blocks};
 use crate::line::Line;
 use crate::units::{Unit8, Unit10, Unit12, Unit16};
 use byteorder::{BE, LE};
+use dpx_header::laws::layouts_are_bounded;
 use dpx_header::{Layout, line_len, pads_in_line};
 use std::marker::PhantomData;
 
@@ -65,6 +66,7 @@ fn split_lines<U: Block>(
     ensures samples_fit { SamplesFit layout.now samples.new }
     ensures pads_fit { PadsFit layout.now pads.new }
 {
+    layouts_are_bounded();
     let line = line_of(unit, layout);
     split_blocks(&line, layout.height as usize, image, samples, pads)
 }
@@ -83,6 +85,7 @@ fn join_lines<U: Block>(unit: &U, layout: &Layout, samples: &[u16], pads: &[u8],
     requires pads_fit { PadsFit layout.now pads.now }
     ensures { image.new ≡ image_of layout.now samples.now pads.now }
 {
+    layouts_are_bounded();
     let line = line_of(unit, layout);
     join_blocks(&line, layout.height as usize, samples, pads, image)
 }
