@@ -5,7 +5,8 @@ use shelf_core::{CreateError, Entry, Shelf, ShelfError};
 use std::alloc::Global;
 use std::test::Fail;
 
-// A shelf that tells nothing. It lists the one file `a`, of which it says a length, and gives only so many bytes.
+// A shelf that tells nothing. It lists `b` and `a`: `a` has WHOLE bytes and gives them all, so that `b` isn't the only file
+// that could be named. Of `b` it says a length, and gives only so many bytes.
 #[derive(Drop)]
 struct Fickle {
     alloc: Global,
@@ -14,10 +15,14 @@ struct Fickle {
     starved: u64,
 }
 
-fn one_entry(alloc: Global) -> Result<Vec<Entry>, NoMemory> {
-    let name = Name::copy(alloc, "a")?;
+const WHOLE: u64 = 5000;
+
+fn two_entries(alloc: Global) -> Result<Vec<Entry>, NoMemory> {
     let mut entries = Vec::new(alloc);
-    entries.push(Entry { name, plain: true })?;
+    for listed in ["b", "a"] {
+        let name = Name::copy(alloc, listed)?;
+        entries.push(Entry { name, plain: true })?;
+    }
     Ok(entries)
 }
 
@@ -40,7 +45,7 @@ impl Shelf for Fickle {
     ghost pending_is_there = { λ shelf name told pending. has_file name };
 
     fn list(&mut self, _root: &str) -> Result<Vec<Entry>, ShelfError> {
-        match one_entry(self.alloc) {
+        match two_entries(self.alloc) {
             Ok(entries) => Ok(entries),
             Err(NoMemory) => {
                 self.starved = self.starved.saturating_add(1);
@@ -49,12 +54,17 @@ impl Shelf for Fickle {
         }
     }
 
-    fn len(&mut self, _name: &str) -> Result<Option<u64>, ShelfError> {
-        Ok(self.said)
+    fn len(&mut self, name: &str) -> Result<Option<u64>, ShelfError> {
+        Ok(if name == "d/a" {
+            Some(WHOLE)
+        } else {
+            self.said
+        })
     }
 
-    fn read_at(&mut self, _name: &str, at: u64, buf: &mut [u8]) -> Result<usize, ShelfError> {
-        let rest = self.given.saturating_sub(at);
+    fn read_at(&mut self, name: &str, at: u64, buf: &mut [u8]) -> Result<usize, ShelfError> {
+        let given = if name == "d/a" { WHOLE } else { self.given };
+        let rest = given.saturating_sub(at);
         Ok(rest.min(buf.len() as u64) as usize)
     }
 
@@ -89,9 +99,9 @@ fn a_file_that_gives_fewer_bytes_changed(rt: HostRuntime) -> Result<(), Fail> {
     let Status::Changed { name, was, now } = &status else {
         return Err(Fail::new("changed"));
     };
-    assert_eq!(rt; name.as_str(), "a");
+    assert_eq!(rt; name.as_str(), "b");
     assert_eq!(rt; (*was, *now), (300000, 70000));
-    let line = "cook: a: changed from 300000 to 70000 bytes\n";
+    let line = "cook: b: changed from 300000 to 70000 bytes\n";
     assert_eq!(rt; out.bytes(), line.as_bytes());
     Ok(())
 }
@@ -110,7 +120,7 @@ fn a_listed_file_without_a_length_is_missing(rt: HostRuntime) -> Result<(), Fail
     let Status::Missing { name } = &status else {
         return Err(Fail::new("missing"));
     };
-    assert_eq!(rt; name.as_str(), "a");
-    assert_eq!(rt; out.bytes(), b"cook: a: not there\n".as_slice());
+    assert_eq!(rt; name.as_str(), "b");
+    assert_eq!(rt; out.bytes(), b"cook: b: not there\n".as_slice());
     Ok(())
 }
