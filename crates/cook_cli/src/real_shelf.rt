@@ -91,7 +91,7 @@ fn length(system: &HostRuntime, name: &str) -> io::Result<Option<u64>> {
 impl Shelf for RealShelf {
     ghost use Rattle.std.specs.Prelude.{None};
     ghost use Rattle.std.proofs.Common.{refl};
-    ghost use Rattle.cook_cli.specs.Untold.{has_file};
+    ghost use Rattle.shelf_core.specs.Untold.{has_file};
 
     ghost files = { λ shelf. None };
 

@@ -8,6 +8,5 @@ pub mod Pieces
 pub mod Stops
 pub mod Sum
 pub mod Planned
-pub mod Untold
 pub use Rattle.cook_bits.specs.Names
 pub use Rattle.shelf_core.specs.Told

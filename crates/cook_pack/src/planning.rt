@@ -189,7 +189,7 @@ mod tests {
     impl Shelf for Fake<'_> {
         ghost use Rattle.std.specs.Prelude.{None};
         ghost use Rattle.std.proofs.Common.{refl};
-        ghost use Rattle.cook_pack.specs.Untold.{has_file};
+        ghost use Rattle.shelf_core.specs.Untold.{has_file};
 
         ghost files = { λ shelf. None };
 

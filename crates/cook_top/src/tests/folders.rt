@@ -138,7 +138,7 @@ impl Foldered {
 impl Shelf for Foldered {
     ghost use Rattle.std.specs.Prelude.{None};
     ghost use Rattle.std.proofs.Common.{refl};
-    ghost use Rattle.cook_pack.specs.Untold.{has_file};
+    ghost use Rattle.shelf_core.specs.Untold.{has_file};
 
     ghost files = { λ shelf. None };
 
@@ -265,5 +265,6 @@ fn another_second_reading_is_a_fault_of_the_file(rt: HostRuntime) -> Result<(), 
     assert!(rt; matches!(status, Status::PackageRefused { .. }));
     assert_eq!(rt; shelf.files.len(), 3);
     assert_eq!(rt; shelf.bytes_of("t/a/b/c"), Some(b"first".as_slice()));
+    assert_eq!(rt; shelf.bytes_of("t/a/b/d"), Some(b"recond".as_slice()));
     Ok(())
 }

@@ -30,7 +30,7 @@ fn two_entries(alloc: Global) -> Result<Vec<Entry>, NoMemory> {
 impl Shelf for Fickle {
     ghost use Rattle.std.specs.Prelude.{None};
     ghost use Rattle.std.proofs.Common.{refl};
-    ghost use Rattle.cook_pack.specs.Untold.{has_file};
+    ghost use Rattle.shelf_core.specs.Untold.{has_file};
 
     ghost files = { λ shelf. None };
 
