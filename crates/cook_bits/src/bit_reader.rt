@@ -3,6 +3,9 @@ ghost use Rattle.cook_bits.specs.Bits.{low_bits, bits_of, number_taken, bits_lef
 
 use std::marker::Model;
 
+mod unary;
+mod whole_bytes;
+
 /// A reader of fields of bits, the highest bit of each byte first. Contracts see the bits that are left.
 #[derive(Drop)]
 pub struct BitReader<'a> {
@@ -132,6 +135,19 @@ mod tests {
             assert_eq!(rt; reader.take(count), value, "{count} bits");
             assert_eq!(rt; reader.left(), left, "behind {count} bits");
         }
+    }
+
+    #[test]
+    fn unary_numbers_and_whole_bytes_are_taken(rt: HostRuntime) {
+        // 0001 0000 0000 0000 0000 0000 0000 0000 0000 0000 0001 1010 0000 0000
+        let mut reader = BitReader::new(&[0x10, 0, 0, 0, 0, 0x1A, 0]);
+        assert_eq!(rt; reader.take_unary(), Some(3));
+        assert_eq!(rt; reader.take_unary(), Some(39));
+        assert_eq!(rt; reader.take_unary(), Some(0));
+        assert_eq!(rt; reader.bytes_left(), 1);
+        reader.align();
+        assert_eq!(rt; reader.take_unary(), None);
+        assert_eq!(rt; reader.left(), 8);
     }
 
     #[test]
