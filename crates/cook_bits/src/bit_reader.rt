@@ -3,6 +3,9 @@ ghost use Rattle.cook_bits.specs.Bits.{low_bits, bits_of, number_taken, bits_lef
 
 use std::marker::Model;
 
+mod unary;
+mod whole_bytes;
+
 /// A reader of fields of bits, the highest bit of each byte first. Contracts see the bits that are left.
 #[derive(Drop)]
 pub struct BitReader<'a> {

@@ -50,3 +50,16 @@ fn bytes_are_replaced_and_checked_in_parts(rt: HostRuntime) -> Result<(), Fail> 
     assert_eq!(rt; name.as_str(), "/a/b");
     Ok(())
 }
+
+#[test]
+fn unary_numbers_and_whole_bytes_are_taken(rt: HostRuntime) {
+    // 0001 0000 0000 0000 0000 0000 0000 0000 0000 0000 0001 1010 0000 0000
+    let mut reader = BitReader::new(&[0x10, 0, 0, 0, 0, 0x1A, 0]);
+    assert_eq!(rt; reader.take_unary(), Some(3));
+    assert_eq!(rt; reader.take_unary(), Some(39));
+    assert_eq!(rt; reader.take_unary(), Some(0));
+    assert_eq!(rt; reader.bytes_left(), 1);
+    reader.align();
+    assert_eq!(rt; reader.take_unary(), None);
+    assert_eq!(rt; reader.left(), 8);
+}
