@@ -1,9 +1,11 @@
+pub mod Among
 pub mod Carries
 pub mod ChoiceLaws
 pub mod CodedLaws
 pub mod Codings
 pub mod Exponents
 pub mod Intervals
+pub mod Lines
 pub mod LowBits
 pub mod Numbers
 pub mod Parting

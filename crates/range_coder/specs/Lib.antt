@@ -3,8 +3,10 @@ pub mod Choices
 pub mod Coding
 pub mod DefaultTable
 pub mod Encoding
+pub mod Held
 pub mod Interval
 pub mod Laws
+pub mod Placing
 pub mod Reading
 pub mod Symbol
 pub mod Table
