@@ -5,12 +5,14 @@ pub mod CodedLaws
 pub mod Codings
 pub mod Exponents
 pub mod Intervals
+pub mod Lengths
 pub mod Lines
 pub mod LowBits
 pub mod Numbers
 pub mod Parting
 pub mod PlacedNumbers
 pub mod Readers
+pub mod Sets
 pub mod Slots
 pub mod SlotsOfSymbols
 pub mod Symbols

@@ -3,6 +3,7 @@ pub mod Choices
 pub mod Coding
 pub mod DefaultTable
 pub mod Encoding
+pub mod Facts
 pub mod Held
 pub mod Interval
 pub mod Laws
