@@ -166,7 +166,7 @@ begins_below : (i : Interval) → IsWide i → slice_index (bytes_in i) 0 < 255
 unfolding bytes_in
 begins_below i w = first_of_bytes i.shifts ((i.low + 255) / 256) (ends_below i w)
 
-length_of_bytes : (i : Interval) → length (bytes_in i) ≡ i.shifts + 1
+pub length_of_bytes : (i : Interval) → length (bytes_in i) ≡ i.shifts + 1
 unfolding bytes_in
 length_of_bytes i = length-bytes_high_first (i.shifts + 1) ((i.low + 255) / 256)
 

@@ -76,7 +76,7 @@ part_moved first left right p =
       differ = p.differ;
     }
 
-part_now : (slot : ℕ) (left_bit right_bit : Bool) (left_rest right_rest : List Choice) → left_bit ≢ right_bit → Part (choice slot left_bit ∷ left_rest) (choice slot right_bit ∷ right_rest)
+pub part_now : (slot : ℕ) (left_bit right_bit : Bool) (left_rest right_rest : List Choice) → left_bit ≢ right_bit → Part (choice slot left_bit ∷ left_rest) (choice slot right_bit ∷ right_rest)
 part_now slot left_bit right_bit left_rest right_rest differ = record {
   common = [];
   slot = slot;

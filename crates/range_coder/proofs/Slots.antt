@@ -61,7 +61,7 @@ puts_none_at table before fields states after left slot bit state same interval 
     subst (λ (xs : List ℕ). PutsFront table before xs after left (choice slot bit ∷ [])) same (puts_none table before fields after left slot bit state interval inside kept is none)
 
 -- one choice got
-gets_one : (table : List ℕ) (before : Reader) (states : List ℕ) (after : Reader) (left : List ℕ) (slot : ℕ) (bit : Bool) (state : ℕ) → ReadsOn before after (record { state = slice_index states slot; bit = bit } ∷ []) → state ≡ next_state table (slice_index states slot) bit → left ≡ slice_set states slot state → Gets table before states after left (choice slot bit ∷ [])
+pub gets_one : (table : List ℕ) (before : Reader) (states : List ℕ) (after : Reader) (left : List ℕ) (slot : ℕ) (bit : Bool) (state : ℕ) → ReadsOn before after (record { state = slice_index states slot; bit = bit } ∷ []) → state ≡ next_state table (slice_index states slot) bit → left ≡ slice_set states slot state → Gets table before states after left (choice slot bit ∷ [])
 unfolding decided states_after
 gets_one table before states after left slot bit state reads next is =
     record { reads = reads; adapts = is ∙ ap (slice_set states slot) next }

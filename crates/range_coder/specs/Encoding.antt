@@ -20,6 +20,10 @@ abbrev pub interval_of : List ℕ → ℕ → ℕ → Interval
 interval_of bytes low range =
     record { low = number_in bytes * 65536 + low; range = range; shifts = length bytes }
 
+-- both, of an encoder with these bytes and this window
+abbrev pub encoding_of : {Z : Type 0} → Vec ℕ Z → ℕ → ℕ → Encoding
+encoding_of bytes low range = record { interval = interval_of bytes.items low range; spare = spare_in bytes }
+
 -- a window after any decisions
 pub record IsWindow (bytes : List ℕ) (low range : ℕ) : Type 0 where
   pub least : 256 ≤ range

@@ -1,9 +1,13 @@
-ghost use Rattle.std.specs.Prelude.{◌≡◌, ℕ, ◌+◌, ◌-◌, ◌<◌, ◌≤◌, ◌↔◌, [], ◌∷◌, nat_le, if◌then◌else◌, slice_index, IsNone, IfSome};
+ghost use Rattle.std.specs.Prelude.{◌≡◌, ℕ, ◌+◌, ◌-◌, ◌<◌, ◌≤◌, ◌↔◌, [], ◌∷◌, nat_le, if◌then◌else◌, slice_index, length, IsNone, IfSome, IfOk, OnErr};
 ghost use Rattle.range_coder.specs.Interval.{part_of_one};
 ghost use Rattle.range_coder.specs.Reading.{Begins, ReadsOn};
-ghost use Rattle.range_coder.specs.Table.{IsState, IsLive, IsClosed, next_state};
+ghost use Rattle.range_coder.specs.Table.{IsState, IsLive, IsClosed, AreLive, next_state};
+ghost use Rattle.range_coder.specs.Choices.{moved};
+ghost use Rattle.range_coder.specs.Coding.{Gets};
+ghost use Rattle.range_coder.specs.Symbol.{choice, IsCodable, symbol_choices, overlong_choices};
 
-use crate::Table;
+use crate::getting::get_value;
+use crate::{BadSymbol, Table};
 use std::marker::Model;
 
 /// Reads bits from coded bytes (RFC 9043, section 3.8.1.1). Past the end of the bytes it reads zeros.
@@ -43,7 +47,21 @@ impl<'a> Decoder<'a> {
         })
     }
 
+    /// The same reader once more: one to read on with in a local variable, and to put back behind a line. It takes no
+    /// memory.
+    #[inline(always)]
+    pub fn copied(&self) -> Decoder<'a>
+        ensures { result ≡ self.now }
+    {
+        Decoder {
+            rest: self.rest,
+            offset: self.offset,
+            range: self.range,
+        }
+    }
+
     /// Reads a bit with the state, and adapts the state. It takes no memory.
+    #[inline(always)]
     pub fn get(&mut self, table: &Table, state: &mut u8) -> bool
         requires live { IsLive table.now state.old }
         ensures reads { ReadsOn self.old self.new (record { state = state.old; bit = result } ∷ []) }
@@ -63,6 +81,40 @@ impl<'a> Decoder<'a> {
             self.range = range;
         }
         bit
+    }
+
+    /// Reads a bit with the state of a slot, of any number of states, and adapts it. It takes no memory.
+    #[inline(always)]
+    pub fn get_slot(&mut self, table: &Table, states: &mut [u8], slot: usize) -> bool
+        requires slot { slot < length states.old }
+        requires live { AreLive table.now states.old }
+        ensures gets { Gets table.now self.old states.old self.new states.new (choice slot result ∷ []) }
+        ensures live { AreLive table.now states.new }
+        ensures closed { IsClosed table.now }
+    {
+        self.get(table, &mut states[slot])
+    }
+
+    /// Reads a number with the 32 states that begin at a slot, of any number of states, and adapts them. It is
+    /// `BadSymbol` exactly where the exponent passes 30. It takes no memory.
+    #[inline(always)]
+    pub fn get_symbol_at(
+        &mut self,
+        table: &Table,
+        states: &mut [u8],
+        first: usize,
+        signed: bool,
+    ) -> Result<i32, BadSymbol>
+        requires within { first + 32 ≤ length states.old }
+        requires live { AreLive table.now states.old }
+        ensures ok { IfOk result (λ value. Gets table.now self.old states.old self.new states.new (moved first (symbol_choices value signed))) }
+        ensures codable { IfOk result (λ value. IsCodable value signed) }
+        ensures bad { OnErr result (Gets table.now self.old states.old self.new states.new (moved first overlong_choices)) }
+        ensures live { AreLive table.now states.new }
+        ensures closed { IsClosed table.now }
+    {
+        let set = &mut states[first..first + 32];
+        get_value(self, table, set, signed)
     }
 }
 

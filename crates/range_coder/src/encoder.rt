@@ -1,9 +1,14 @@
-ghost use Rattle.std.specs.Prelude.{◌≡◌, ◌+◌, ◌-◌, ◌*◌, ◌^◌, ◌<◌, ◌≤◌, if◌then◌else◌, IfOk, OnOk, OnErr};
-ghost use Rattle.range_coder.specs.Interval.{whole, part_of_one, narrow, ending};
-ghost use Rattle.range_coder.specs.Table.{IsState, IsLive, IsClosed, next_state};
+ghost use Rattle.std.specs.Prelude.{◌≡◌, ◌+◌, ◌<◌, ◌≤◌, [], ◌∷◌, length, IfOk, OnOk, OnErr};
+ghost use Rattle.range_coder.specs.Interval.{whole, narrow, ending};
+ghost use Rattle.range_coder.specs.Table.{IsLive, IsClosed, AreLive, next_state};
+ghost use Rattle.range_coder.specs.Coding.{Puts, PutsFront};
+ghost use Rattle.range_coder.specs.Symbol.{choice, IsCodable, symbol_choices};
+ghost use Rattle.range_coder.specs.Placing.{ArePlaced, placed_symbols};
 
-use crate::Table;
 use crate::carry::push_digit;
+use crate::putting::{put_line, put_value};
+use crate::window::{Window, part};
+use crate::{Placed, Table};
 use cook_bits::{Bytes, NoMemory};
 use std::alloc::Global;
 use std::marker::Model;
@@ -13,18 +18,17 @@ use std::marker::Model;
 #[derive(Drop)]
 pub struct Encoder {
     bytes: Vec<u8>,
-    low: u32,
-    range: u32,
+    window: Window,
 }
 
 impl Model for Encoder {
-    ghost use Rattle.range_coder.specs.Encoding.{Encoding, interval_of, spare_in, IsWindow};
+    ghost use Rattle.range_coder.specs.Encoding.{Encoding, encoding_of, IsWindow};
 
     ghost Value = { Encoding };
 
-    ghost view = { λ e. record { interval = interval_of e.bytes.items e.low e.range; spare = spare_in e.bytes } };
+    ghost view = { λ e. encoding_of e.bytes e.window.low e.window.range };
 
-    ghost invariant = { λ e. IsWindow e.bytes.items e.low e.range };
+    ghost invariant = { λ e. IsWindow e.bytes.items e.window.low e.window.range };
 }
 
 impl Encoder {
@@ -34,12 +38,14 @@ impl Encoder {
     {
         Encoder {
             bytes: Vec::new(alloc),
-            low: 0,
-            range: 65280,
+            window: Window {
+                low: 0,
+                range: 65280,
+            },
         }
     }
 
-    /// Makes room for `n` bits: the next `n` calls of [`Encoder::put`] aren't refused.
+    /// Makes room for `n` bits: the next `n` bits aren't refused, however they are put.
     pub fn reserve(&mut self, n: usize) -> Result<(), NoMemory>
         ensures room { OnOk result (n ≤ self.new.spare) }
         ensures spare { self.old.spare ≤ self.new.spare }
@@ -62,52 +68,81 @@ impl Encoder {
         ensures room { OnErr result (self.old.spare ≡ 0) }
         ensures spare { self.old.spare ≤ self.new.spare + 1 }
     {
-        let next = table.next(*state, bit);
-        let (low, range) = part(self.low, self.range, *state, bit);
-        if range < 256 {
-            push_digit(&mut self.bytes, low / 256)?;
-            self.low = low % 256 * 256;
-            self.range = range * 256;
-        } else {
-            self.low = low;
-            self.range = range;
-        }
-        *state = next;
-        Ok(())
+        self.window.put(&mut self.bytes, table, state, bit)
+    }
+
+    /// Codes a bit with the state of a slot, of any number of states, and adapts it. After a refusal nothing is
+    /// changed. Where there is room it isn't refused.
+    pub fn put_slot(
+        &mut self,
+        table: &Table,
+        states: &mut [u8],
+        slot: usize,
+        bit: bool,
+    ) -> Result<(), NoMemory>
+        requires slot { slot < length states.old }
+        requires live { AreLive table.now states.old }
+        ensures ok { OnOk result (Puts table.now self.old states.old self.new states.new (choice slot bit ∷ [])) }
+        ensures err { OnErr result (PutsFront table.now self.old states.old self.new states.new (choice slot bit ∷ [])) }
+        ensures live { AreLive table.now states.new }
+        ensures closed { IsClosed table.now }
+    {
+        self.window.put_slot(&mut self.bytes, table, states, slot, bit)
+    }
+
+    // Codes a number with a set of states.
+    pub(crate) fn put_value(
+        &mut self,
+        table: &Table,
+        set: &mut [u8],
+        value: i32,
+        signed: bool,
+    ) -> Result<(), NoMemory>
+        requires set { length set.old ≡ 32 }
+        requires live { AreLive table.now set.old }
+        requires codable { IsCodable value signed }
+        ensures ok { OnOk result (Puts table.now self.old set.old self.new set.new (symbol_choices value signed)) }
+        ensures err { OnErr result (PutsFront table.now self.old set.old self.new set.new (symbol_choices value signed)) }
+        ensures live { AreLive table.now set.new }
+        ensures closed { IsClosed table.now }
+    {
+        put_value(&mut self.window, &mut self.bytes, table, set, value, signed)
+    }
+
+    /// Codes numbers one after another, each with the 32 states that begin at its slot, of any number of states, and
+    /// adapts them. After a refusal a front of their bits stands in the encoder. Where there is room for all their
+    /// bits it isn't refused.
+    pub fn put_symbols(
+        &mut self,
+        table: &Table,
+        states: &mut [u8],
+        symbols: &[Placed],
+        signed: bool,
+    ) -> Result<(), NoMemory>
+        requires live { AreLive table.now states.old }
+        requires placed { ArePlaced (length states.old) signed symbols.now }
+        ensures ok { OnOk result (Puts table.now self.old states.old self.new states.new (placed_symbols signed symbols.now)) }
+        ensures err { OnErr result (PutsFront table.now self.old states.old self.new states.new (placed_symbols signed symbols.now)) }
+        ensures live { AreLive table.now states.new }
+    {
+        let mut window = self.window;
+        let put = put_line(&mut window, &mut self.bytes, table, states, symbols, signed);
+        self.window = window;
+        put
     }
 
     /// The bytes of all bits that were put since the encoder was made.
     pub fn finish(self) -> Result<Bytes, NoMemory>
         ensures { IfOk result (λ bytes. bytes ≡ ending self.interval) }
     {
-        let Encoder { bytes, low, range } = self;
+        let Encoder { bytes, window } = self;
         let mut bytes = bytes;
-        let (mut low, range) = part(low, range, 129, false);
+        let (mut low, range) = part(window.low, window.range, 129, false);
         if range < 256 {
             push_digit(&mut bytes, low / 256)?;
             low = low % 256 * 256;
         }
         push_digit(&mut bytes, (low + 255) / 256)?;
         Ok(Bytes::from_vec(bytes))
-    }
-}
-
-// The part of a window that a bit has: its low end and its range.
-#[inline(always)]
-fn part(low: u32, range: u32, state: u8, bit: bool) -> (u32, u32)
-    requires usable { IsState state }
-    requires least { 256 ≤ range }
-    requires most { range ≤ 65280 }
-    requires window { low + range ≤ 131072 }
-    ensures low { result.0 ≡ (if bit then low + (range - part_of_one range state) else low) }
-    ensures range { result.1 ≡ (if bit then part_of_one range state else range - part_of_one range state) }
-    ensures some { 1 ≤ result.1 }
-    ensures window { result.0 + result.1 ≤ low + range }
-{
-    let ones = range * u32::from(state) / 256;
-    if bit {
-        (low + (range - ones), ones)
-    } else {
-        (low, range - ones)
     }
 }

@@ -1,6 +1,7 @@
 //! What holds of coded bytes and of reading them. Each function does nothing: its contract is the
 //! law, which a proof elsewhere can cite.
 
+ghost use Rattle.range_coder.specs.Facts.{CodeLengths, CodingsAreJoined, PartsStay, SetsOfStates, DefaultTableIsLive};
 ghost use Rattle.range_coder.specs.Laws.{CodedIsRead, CodedAreBytes, CodedBegins, OneMoreIsRead, FrontIsRead, ReadIsInside, ReadOnIsJoined, NarrowedIsJoined, DecidedIsJoined, StatesAreJoined, ChoicesStayLive, ChoicesAreOnStates, ChoicesKeepCount, PutKeepsCount, GetKeepsCount, MovedIsDecided, MovedLeaves, PartedAreNotBothRead, SymbolsPart, OverlongParts, PlacedNumbersAreOne, SymbolSlots, OverlongSlots};
 
 /// The coded bytes of a list of decisions are read as these, their first byte isn't 255, and bytes
@@ -72,4 +73,30 @@ pub fn one_list_of_numbers_is_read()
 pub fn symbol_slots()
     ensures number { SymbolSlots }
     ensures overlong { OverlongSlots }
+{}
+
+/// How long codes are: coded bytes by their decisions, and numbers by their exponents.
+pub fn code_lengths()
+    ensures { CodeLengths }
+{}
+
+/// Choices that are put, refused or got one after another are those of the joined list, and what is put or got from
+/// the first choice to the last is coded or read as the list.
+pub fn codings_are_joined()
+    ensures { CodingsAreJoined }
+{}
+
+/// Lists that part go on to part, whatever comes before and behind, and wherever their set stands.
+pub fn parts_stay()
+    ensures { PartsStay }
+{}
+
+/// Many sets of states one behind another: live states, the slots that choices use, and choices on one set of them.
+pub fn sets_of_states()
+    ensures { SetsOfStates }
+{}
+
+/// The default table is closed, and 8 to 248 are live for it.
+pub fn default_table_is_live()
+    ensures { DefaultTableIsLive }
 {}

@@ -4,16 +4,17 @@
 mod carry;
 mod decoder;
 mod encoder;
+mod getting;
 pub mod laws;
+mod putting;
 mod sharing;
 mod states;
 mod symbol;
 mod table;
-#[cfg(test)]
-mod tests;
+mod window;
 
 pub use decoder::Decoder;
 pub use encoder::Encoder;
-pub use states::States;
-pub use symbol::{BadSymbol, get_symbol, put_symbol};
+pub use states::{States, get_symbol, put_symbol};
+pub use symbol::{BadSymbol, Placed};
 pub use table::Table;

@@ -1,9 +1,10 @@
-ghost use Rattle.std.specs.Prelude.{◌≡◌, List, [], ◌∷◌, ℕ, ◌<◌, length, OnOk, OnErr};
-ghost use Rattle.range_coder.specs.Symbol.{choice, fresh_states};
+ghost use Rattle.std.specs.Prelude.{◌≡◌, List, [], ◌∷◌, ℕ, ◌<◌, length, OnOk, OnErr, IfOk};
+ghost use Rattle.range_coder.specs.Symbol.{choice, fresh_states, IsCodable, symbol_choices, overlong_choices};
 ghost use Rattle.range_coder.specs.Table.{IsLive, IsClosed, AreLive};
 ghost use Rattle.range_coder.specs.Coding.{Puts, PutsFront, Gets};
 
-use crate::{Decoder, Encoder, Table};
+use crate::getting::get_value;
+use crate::{BadSymbol, Decoder, Encoder, Table};
 use cook_bits::NoMemory;
 use std::marker::Model;
 
@@ -34,7 +35,6 @@ impl States {
 
     /// Codes a bit with the state of a slot, and adapts it. After a refusal nothing is changed. Where there is room
     /// it isn't refused.
-    #[inline(always)]
     pub fn put(
         &mut self,
         encoder: &mut Encoder,
@@ -50,12 +50,10 @@ impl States {
         ensures closed { IsClosed table.now }
         ensures count { length self.new ≡ 32 }
     {
-        encoder.put(table, &mut self.states[slot], bit)?;
-        Ok(())
+        encoder.put_slot(table, &mut self.states, slot, bit)
     }
 
     /// Reads a bit with the state of a slot, and adapts it. It takes no memory.
-    #[inline(always)]
     pub fn get(&mut self, decoder: &mut Decoder<'_>, table: &Table, slot: usize) -> bool
         requires slot { slot < 32 }
         requires live { AreLive table.now self.old }
@@ -64,6 +62,43 @@ impl States {
         ensures closed { IsClosed table.now }
         ensures count { length self.new ≡ 32 }
     {
-        decoder.get(table, &mut self.states[slot])
+        decoder.get_slot(table, &mut self.states, slot)
     }
+}
+
+/// Codes a number with the states, and adapts them. After a refusal a front of its bits stands in the
+/// encoder. Where there is room for all its bits it isn't refused.
+pub fn put_symbol(
+    encoder: &mut Encoder,
+    table: &Table,
+    states: &mut States,
+    value: i32,
+    signed: bool,
+) -> Result<(), NoMemory>
+    requires live { AreLive table.now states.old }
+    requires codable { IsCodable value signed }
+    ensures ok { OnOk result (Puts table.now encoder.old states.old encoder.new states.new (symbol_choices value signed)) }
+    ensures err { OnErr result (PutsFront table.now encoder.old states.old encoder.new states.new (symbol_choices value signed)) }
+    ensures live { AreLive table.now states.new }
+    ensures closed { IsClosed table.now }
+{
+    encoder.put_value(table, &mut states.states, value, signed)
+}
+
+/// Reads a number with the states, and adapts them. It is `BadSymbol` exactly where the exponent passes
+/// 30. It takes no memory.
+pub fn get_symbol(
+    decoder: &mut Decoder<'_>,
+    table: &Table,
+    states: &mut States,
+    signed: bool,
+) -> Result<i32, BadSymbol>
+    requires { AreLive table.now states.old }
+    ensures ok { IfOk result (λ value. Gets table.now decoder.old states.old decoder.new states.new (symbol_choices value signed)) }
+    ensures codable { IfOk result (λ value. IsCodable value signed) }
+    ensures bad { OnErr result (Gets table.now decoder.old states.old decoder.new states.new overlong_choices) }
+    ensures live { AreLive table.now states.new }
+    ensures closed { IsClosed table.now }
+{
+    get_value(decoder, table, &mut states.states, signed)
 }

@@ -1,5 +1,0 @@
-use Rattle.range_coder.proofs.Symbols.{no_sign_put}
-use Rattle.range_coder.proofs.symbol.put_sign.Goals as goal
-
-pub returns-else-signed-clause-ok : goal.returns-else-signed-clause-ok
-returns-else-signed-clause-ok c = no_sign_put _ _ _ _ _ _ c.if-signed.false

@@ -1,0 +1,116 @@
+// Numbers got from bits, each with the state of a slot of a set of 32 (RFC 9043, section 3.8.1.2).
+
+ghost use Rattle.std.specs.Int.{w32, is_negative};
+ghost use Rattle.std.specs.Prelude.{◌≡◌, false, unsigned_abs, FitsSigned, ◌+◌, ◌*◌, ◌^◌, ◌<◌, ◌≤◌, ◌++◌, [], ◌∷◌, length, OnErr, IfOk};
+ghost use Rattle.range_coder.specs.Table.{IsClosed, AreLive};
+ghost use Rattle.range_coder.specs.Coding.{Gets};
+ghost use Rattle.range_coder.specs.Symbol.{IsCodable, symbol_choices, overlong_choices, exponent_choices, ones, low_bits, sign_choices};
+
+use crate::{BadSymbol, Decoder, Table};
+
+/// Reads a number with a set.
+#[inline(always)]
+pub(crate) fn get_value(
+    decoder: &mut Decoder<'_>,
+    table: &Table,
+    set: &mut [u8],
+    signed: bool,
+) -> Result<i32, BadSymbol>
+    requires set { length set.old ≡ 32 }
+    requires live { AreLive table.now set.old }
+    ensures ok { IfOk result (λ value. Gets table.now decoder.old set.old decoder.new set.new (symbol_choices value signed)) }
+    ensures codable { IfOk result (λ value. IsCodable value signed) }
+    ensures bad { OnErr result (Gets table.now decoder.old set.old decoder.new set.new overlong_choices) }
+    ensures live { AreLive table.now set.new }
+    ensures closed { IsClosed table.now }
+{
+    if decoder.get_slot(table, set, 0) {
+        return Ok(0);
+    }
+    let exponent = get_exponent(decoder, table, set)?;
+    let magnitude = get_low_bits(decoder, table, set, exponent);
+    let negative = get_sign(decoder, table, set, exponent, signed);
+    Ok(with_sign(magnitude, negative))
+}
+
+// Reads an exponent.
+#[inline(always)]
+#[tactic(auto, using(crate::proofs::Symbols::coded_ones))]
+fn get_exponent(
+    decoder: &mut Decoder<'_>,
+    table: &Table,
+    set: &mut [u8],
+) -> Result<usize, BadSymbol>
+    requires set { length set.old ≡ 32 }
+    requires live { AreLive table.now set.old }
+    ensures ok { IfOk result (λ exponent. Gets table.now decoder.old set.old decoder.new set.new (exponent_choices exponent)) }
+    ensures high { IfOk result (λ exponent. exponent ≤ 30) }
+    ensures bad { OnErr result (Gets table.now decoder.old set.old decoder.new set.new (ones 31)) }
+    ensures live { AreLive table.now set.new }
+{
+    for exponent in 0..31_usize {
+        if !decoder.get_slot(table, set, 1 + exponent.min(9)) {
+            return Ok(exponent);
+        }
+    }
+    Err(BadSymbol)
+}
+
+// Reads the bits below the highest one, and answers the magnitude.
+#[inline(always)]
+#[tactic(auto, using(crate::proofs::LowBits::coded_bits))]
+fn get_low_bits(
+    decoder: &mut Decoder<'_>,
+    table: &Table,
+    set: &mut [u8],
+    exponent: usize,
+) -> u32
+    requires set { length set.old ≡ 32 }
+    requires live { AreLive table.now set.old }
+    requires exponent { exponent ≤ 30 }
+    ensures gets { Gets table.now decoder.old set.old decoder.new set.new (low_bits exponent result) }
+    ensures low { 2 ^ exponent ≤ result }
+    ensures high { result < 2 * 2 ^ exponent }
+    ensures live { AreLive table.now set.new }
+{
+    let mut magnitude = 1;
+    for place in (0..exponent).rev() {
+        magnitude = 2 * magnitude + u32::from(decoder.get_slot(table, set, 22 + place.min(9)));
+    }
+    magnitude
+}
+
+// Reads the sign, where there is one.
+#[inline(always)]
+fn get_sign(
+    decoder: &mut Decoder<'_>,
+    table: &Table,
+    set: &mut [u8],
+    exponent: usize,
+    signed: bool,
+) -> bool
+    requires set { length set.old ≡ 32 }
+    requires live { AreLive table.now set.old }
+    ensures gets { Gets table.now decoder.old set.old decoder.new set.new (sign_choices signed exponent result) }
+    ensures unsigned { signed ≡ false → result ≡ false }
+    ensures live { AreLive table.now set.new }
+{
+    if signed {
+        decoder.get_slot(table, set, 11 + exponent.min(10))
+    } else {
+        false
+    }
+}
+
+// The number of this magnitude and sign.
+#[inline(always)]
+fn with_sign(magnitude: u32, negative: bool) -> i32
+    requires some { 0 < magnitude }
+    requires high { magnitude < 2 ^ 31 }
+    ensures magnitude { unsigned_abs result ≡ magnitude }
+    ensures sign { is_negative result ≡ negative }
+    ensures fits { FitsSigned w32 result }
+{
+    let value = magnitude as i32;
+    if negative { -value } else { value }
+}

@@ -1,0 +1,233 @@
+// Numbers put as bits, each with the state of a slot of a set of 32 (RFC 9043, section 3.8.1.2). The window stands in a
+// local variable of the caller, so what is coded often is inlined.
+
+ghost use Rattle.std.specs.Prelude.{◌≡◌, ◌+◌, ◌*◌, ◌<◌, ◌≤◌, ◌++◌, [], ◌∷◌, length, OnOk, OnErr};
+ghost use Rattle.range_coder.specs.Table.{IsClosed, AreLive};
+ghost use Rattle.range_coder.specs.Encoding.{IsWindow};
+ghost use Rattle.range_coder.specs.Coding.{Puts, PutsFront};
+ghost use Rattle.range_coder.specs.Held.{held};
+ghost use Rattle.range_coder.specs.Symbol.{IsCodable, symbol_choices, number_choices, exponent_of, exponent_choices, ones, low_bits, sign_choices};
+ghost use Rattle.range_coder.specs.Placing.{IsPlaced, ArePlaced, placed_symbol, placed_symbols};
+
+use crate::window::Window;
+use crate::{Placed, Table};
+use cook_bits::NoMemory;
+
+/// The states of a set.
+const SET: usize = 32;
+
+/// Codes numbers one after another, each with the set that begins at its slot.
+pub(crate) fn put_line(
+    window: &mut Window,
+    bytes: &mut Vec<u8>,
+    table: &Table,
+    states: &mut [u8],
+    symbols: &[Placed],
+    signed: bool,
+) -> Result<(), NoMemory>
+    requires live { AreLive table.now states.old }
+    requires placed { ArePlaced (length states.old) signed symbols.now }
+    requires window { IsWindow bytes.old.items window.old.low window.old.range }
+    ensures ok { OnOk result (Puts table.now (held window.old bytes.old) states.old (held window.new bytes.new) states.new (placed_symbols signed symbols.now)) }
+    ensures err { OnErr result (PutsFront table.now (held window.old bytes.old) states.old (held window.new bytes.new) states.new (placed_symbols signed symbols.now)) }
+    ensures live { AreLive table.now states.new }
+    ensures window { IsWindow bytes.new.items window.new.low window.new.range }
+{
+    for symbol in symbols {
+        put_placed(window, bytes, table, states, *symbol, signed)?;
+    }
+    Ok(())
+}
+
+// Codes a number with the set that begins at its slot.
+#[inline(always)]
+fn put_placed(
+    window: &mut Window,
+    bytes: &mut Vec<u8>,
+    table: &Table,
+    states: &mut [u8],
+    symbol: Placed,
+    signed: bool,
+) -> Result<(), NoMemory>
+    requires live { AreLive table.now states.old }
+    requires placed { IsPlaced (length states.old) signed symbol }
+    requires window { IsWindow bytes.old.items window.old.low window.old.range }
+    ensures ok { OnOk result (Puts table.now (held window.old bytes.old) states.old (held window.new bytes.new) states.new (placed_symbol signed symbol)) }
+    ensures err { OnErr result (PutsFront table.now (held window.old bytes.old) states.old (held window.new bytes.new) states.new (placed_symbol signed symbol)) }
+    ensures live { AreLive table.now states.new }
+    ensures window { IsWindow bytes.new.items window.new.low window.new.range }
+{
+    let first = symbol.first as usize;
+    let set = &mut states[first..first + SET];
+    put_value(window, bytes, table, set, symbol.value, signed)
+}
+
+/// Codes a number with a set.
+#[inline(always)]
+pub(crate) fn put_value(
+    window: &mut Window,
+    bytes: &mut Vec<u8>,
+    table: &Table,
+    set: &mut [u8],
+    value: i32,
+    signed: bool,
+) -> Result<(), NoMemory>
+    requires set { length set.old ≡ 32 }
+    requires live { AreLive table.now set.old }
+    requires codable { IsCodable value signed }
+    requires window { IsWindow bytes.old.items window.old.low window.old.range }
+    ensures ok { OnOk result (Puts table.now (held window.old bytes.old) set.old (held window.new bytes.new) set.new (symbol_choices value signed)) }
+    ensures err { OnErr result (PutsFront table.now (held window.old bytes.old) set.old (held window.new bytes.new) set.new (symbol_choices value signed)) }
+    ensures live { AreLive table.now set.new }
+    ensures closed { IsClosed table.now }
+    ensures window { IsWindow bytes.new.items window.new.low window.new.range }
+{
+    let magnitude = value.unsigned_abs();
+    if magnitude == 0 {
+        return window.put_slot(bytes, table, set, 0, true);
+    }
+    put_number(window, bytes, table, set, magnitude, value < 0, signed)
+}
+
+// Codes a number that isn't 0.
+#[inline(always)]
+fn put_number(
+    window: &mut Window,
+    bytes: &mut Vec<u8>,
+    table: &Table,
+    set: &mut [u8],
+    magnitude: u32,
+    negative: bool,
+    signed: bool,
+) -> Result<(), NoMemory>
+    requires set { length set.old ≡ 32 }
+    requires live { AreLive table.now set.old }
+    requires some { 0 < magnitude }
+    requires window { IsWindow bytes.old.items window.old.low window.old.range }
+    ensures ok { OnOk result (Puts table.now (held window.old bytes.old) set.old (held window.new bytes.new) set.new (number_choices (exponent_of magnitude) magnitude negative signed)) }
+    ensures err { OnErr result (PutsFront table.now (held window.old bytes.old) set.old (held window.new bytes.new) set.new (number_choices (exponent_of magnitude) magnitude negative signed)) }
+    ensures live { AreLive table.now set.new }
+    ensures closed { IsClosed table.now }
+    ensures window { IsWindow bytes.new.items window.new.low window.new.range }
+{
+    let exponent = exponent_of(magnitude);
+    window.put_slot(bytes, table, set, 0, false)?;
+    put_exponent(window, bytes, table, set, exponent)?;
+    put_low_bits(window, bytes, table, set, exponent, magnitude)?;
+    put_sign(window, bytes, table, set, exponent, negative, signed)?;
+    Ok(())
+}
+
+// The place of the highest bit.
+#[inline(always)]
+fn exponent_of(magnitude: u32) -> usize
+    requires { 0 < magnitude }
+    ensures exponent { result ≡ exponent_of magnitude }
+    ensures high { result < 32 }
+{
+    magnitude.ilog2() as usize
+}
+
+// Codes an exponent.
+#[inline(always)]
+fn put_exponent(
+    window: &mut Window,
+    bytes: &mut Vec<u8>,
+    table: &Table,
+    set: &mut [u8],
+    exponent: usize,
+) -> Result<(), NoMemory>
+    requires set { length set.old ≡ 32 }
+    requires live { AreLive table.now set.old }
+    requires exponent { exponent < 32 }
+    requires window { IsWindow bytes.old.items window.old.low window.old.range }
+    ensures ok { OnOk result (Puts table.now (held window.old bytes.old) set.old (held window.new bytes.new) set.new (exponent_choices exponent)) }
+    ensures err { OnErr result (PutsFront table.now (held window.old bytes.old) set.old (held window.new bytes.new) set.new (exponent_choices exponent)) }
+    ensures live { AreLive table.now set.new }
+    ensures window { IsWindow bytes.new.items window.new.low window.new.range }
+{
+    put_ones(window, bytes, table, set, exponent)?;
+    window.put_slot(bytes, table, set, 1 + exponent.min(9), false)?;
+    Ok(())
+}
+
+// Codes that many ones of an exponent.
+#[inline(always)]
+#[tactic(auto, using(crate::proofs::Symbols::coded_ones))]
+fn put_ones(
+    window: &mut Window,
+    bytes: &mut Vec<u8>,
+    table: &Table,
+    set: &mut [u8],
+    exponent: usize,
+) -> Result<(), NoMemory>
+    requires set { length set.old ≡ 32 }
+    requires live { AreLive table.now set.old }
+    requires window { IsWindow bytes.old.items window.old.low window.old.range }
+    ensures ok { OnOk result (Puts table.now (held window.old bytes.old) set.old (held window.new bytes.new) set.new (ones exponent)) }
+    ensures err { OnErr result (PutsFront table.now (held window.old bytes.old) set.old (held window.new bytes.new) set.new (ones exponent)) }
+    ensures live { AreLive table.now set.new }
+    ensures window { IsWindow bytes.new.items window.new.low window.new.range }
+{
+    for k in 0..exponent {
+        window.put_slot(bytes, table, set, 1 + k.min(9), true)?;
+    }
+    Ok(())
+}
+
+// Codes the bits below the highest one.
+#[inline(always)]
+#[tactic(auto, using(crate::proofs::LowBits::coded_bits))]
+fn put_low_bits(
+    window: &mut Window,
+    bytes: &mut Vec<u8>,
+    table: &Table,
+    set: &mut [u8],
+    exponent: usize,
+    magnitude: u32,
+) -> Result<(), NoMemory>
+    requires set { length set.old ≡ 32 }
+    requires live { AreLive table.now set.old }
+    requires exponent { exponent < 32 }
+    requires window { IsWindow bytes.old.items window.old.low window.old.range }
+    ensures ok { OnOk result (Puts table.now (held window.old bytes.old) set.old (held window.new bytes.new) set.new (low_bits exponent magnitude)) }
+    ensures err { OnErr result (PutsFront table.now (held window.old bytes.old) set.old (held window.new bytes.new) set.new (low_bits exponent magnitude)) }
+    ensures live { AreLive table.now set.new }
+    ensures window { IsWindow bytes.new.items window.new.low window.new.range }
+{
+    for place in (0..exponent).rev() {
+        window.put_slot(
+            bytes,
+            table,
+            set,
+            22 + place.min(9),
+            (magnitude >> place) % 2 == 1,
+        )?;
+    }
+    Ok(())
+}
+
+// Codes the sign, where there is one.
+#[inline(always)]
+fn put_sign(
+    window: &mut Window,
+    bytes: &mut Vec<u8>,
+    table: &Table,
+    set: &mut [u8],
+    exponent: usize,
+    negative: bool,
+    signed: bool,
+) -> Result<(), NoMemory>
+    requires set { length set.old ≡ 32 }
+    requires live { AreLive table.now set.old }
+    requires window { IsWindow bytes.old.items window.old.low window.old.range }
+    ensures ok { OnOk result (Puts table.now (held window.old bytes.old) set.old (held window.new bytes.new) set.new (sign_choices signed exponent negative)) }
+    ensures err { OnErr result (PutsFront table.now (held window.old bytes.old) set.old (held window.new bytes.new) set.new (sign_choices signed exponent negative)) }
+    ensures live { AreLive table.now set.new }
+    ensures window { IsWindow bytes.new.items window.new.low window.new.range }
+{
+    if signed {
+        window.put_slot(bytes, table, set, 11 + exponent.min(10), negative)?;
+    }
+    Ok(())
+}
