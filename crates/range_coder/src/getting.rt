@@ -92,12 +92,7 @@ fn get_exponent(
 // Reads the bits below the highest one, and answers the magnitude.
 #[inline(always)]
 #[tactic(auto, using(crate::proofs::LowBits::coded_bits))]
-fn get_low_bits(
-    decoder: &mut Decoder<'_>,
-    table: &Table,
-    set: &mut [u8],
-    exponent: usize,
-) -> u32
+fn get_low_bits(decoder: &mut Decoder<'_>, table: &Table, set: &mut [u8], exponent: usize) -> u32
     requires set { length set.old ≡ 32 }
     requires live { AreLive table.now set.old }
     requires exponent { exponent ≤ 30 }

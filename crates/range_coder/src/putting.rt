@@ -115,9 +115,13 @@ fn put_number(
 {
     let exponent = exponent_of(magnitude);
     if exponent < SHORT {
-        return put_parts(window, bytes, table, set, exponent, magnitude, negative, signed);
+        return put_parts(
+            window, bytes, table, set, exponent, magnitude, negative, signed,
+        );
     }
-    put_parts(window, bytes, table, set, exponent, magnitude, negative, signed)
+    put_parts(
+        window, bytes, table, set, exponent, magnitude, negative, signed,
+    )
 }
 
 // Codes a number that isn't 0, whose exponent is known.
