@@ -37,7 +37,6 @@ rows_few width height is =
     let below : (height + (film_lines width - 1)) / film_lines width < 1025 = div_below (height + (film_lines width - 1)) (film_lines width) 1025 some (omega arith) in
     omega arith
 
-
 -- no more rows than lines
 pub rows_within : (width height : ℕ) → IsPicture width height → film_rows width height ≤ height
 unfolding film_rows

@@ -1,5 +1,5 @@
 -- What holds of records, whatever the parameters.
-use Rattle.std.specs.Prelude.{◌≡◌, ℕ, ◌+◌, ◌-◌, ◌*◌, ◌/◌, ◌<◌, ◌≤◌, Ok}
+use Rattle.std.specs.Prelude.{◌≡◌, ℕ, ◌+◌, ◌-◌, ◌*◌, ◌/◌, ◌≤◌, Ok}
 use Rattle.ffv1_params.specs.Parameters.{Parameters, AreFilm, IsPicture, film_lines, film_rows}
 use Rattle.ffv1_params.specs.Record.{record_of, film_fields}
 use Rattle.ffv1_params.specs.Reading.{record_read}

@@ -18,4 +18,3 @@ pub use error::ParamsWhy;
 pub use parameters::Params;
 pub use reading::read;
 pub use writing::write;
-

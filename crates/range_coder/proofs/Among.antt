@@ -1,12 +1,12 @@
 -- A set of states among others: choices on a part of a list of states, and live lists put together.
-use Rattle.std.proofs.Common.{◌≡◌, ℕ, ◌+◌, ◌-◌, ◌<◌, ◌≤◌, List, ◌++◌, length, take, drop, slice_index, refl, sym, ap, ◌∙◌, subst, arith, inl, inr, append_assoc, length-append}
+use Rattle.std.proofs.Common.{◌≡◌, ℕ, ◌+◌, ◌-◌, ◌<◌, ◌≤◌, List, ◌++◌, length, take, drop, slice_index, sym, ap, ◌∙◌, subst, arith, inl, inr, append_assoc, length-append}
 use Rattle.std.proofs.lemmas.Bool.{cases_lt}
 use Rattle.std.proofs.lemmas.List.{get_or_append_left, get_or-append-add, get_or-take, get_or-drop, length-take-le, length-drop, length-map, map-append, take-append-drop}
 use Rattle.range_coder.specs.Table.{IsLive, AreLive}
 use Rattle.range_coder.specs.Reading.{Reader, ReadsOn}
 use Rattle.range_coder.specs.Encoding.{Encoding}
-use Rattle.range_coder.specs.Choices.{Choice, moved, states_after, decided, chosen, UseSlots}
-use Rattle.range_coder.specs.Interval.{Decision, narrowed}
+use Rattle.range_coder.specs.Choices.{Choice, moved, UseSlots}
+use Rattle.range_coder.specs.Interval.{narrowed}
 use Rattle.range_coder.specs.Coding.{Puts, PutsFront, Gets}
 use Rattle.range_coder.proofs.ChoiceLaws.{decided-moved, states_after-moved, slots_left}
 

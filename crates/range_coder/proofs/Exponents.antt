@@ -1,12 +1,12 @@
 -- Which number a symbol's choices are: its exponent, its sign, and where two numbers part.
-use Rattle.std.proofs.Common.{◌≡◌, ℕ, zero, suc, ◌*◌, ◌^◌, ◌<◌, ◌≤◌, [], ◌∷◌, Bool, true, false, refl, sym, arith, inl, inr}
+use Rattle.std.proofs.Common.{◌≡◌, ℕ, zero, suc, min, ◌+◌, ◌*◌, ◌^◌, ◌<◌, ◌≤◌, [], ◌∷◌, Bool, true, false, refl, sym, arith, inl, inr}
 use Rattle.std.specs.Prelude.{ℤ, pos, negsuc, unsigned_abs}
 use Rattle.std.proofs.lemmas.Int.{ints}
 use Rattle.std.specs.Int.{is_negative}
-use Rattle.std.proofs.Math.Nat.{pow-suc}
+use Rattle.std.proofs.Math.Nat.{pow-suc, min-eq_left, min-eq_right}
 use Rattle.std.proofs.Math.Pow.{pow_mono}
 use Rattle.std.proofs.lemmas.Bool.{cases_lt, le-leb, lt-leb, ne_eqb, eq-eqb}
-use Rattle.range_coder.specs.Symbol.{choice, exponent_up_to, exponent_of, number_choices, symbol_choices, IsCodable}
+use Rattle.range_coder.specs.Symbol.{choice, exponent_slot, exponent_up_to, exponent_of, number_choices, symbol_choices, IsCodable}
 
 -- the search for the exponent finds it
 pub exponent_up_to-is : (most magnitude e : ℕ) → e ≤ most → 2 ^ e ≤ magnitude → magnitude < 2 * 2 ^ e → exponent_up_to most magnitude ≡ e
@@ -75,3 +75,10 @@ pos_sign n = grind (arith, ints)
 
 pub neg_sign : (n : ℕ) → is_negative (negsuc n) ≡ true
 neg_sign n = refl
+
+-- the slots of the ones: below 10 each has its own, and from 10 on they share the last
+pub few_slot : (k : ℕ) → k < 10 → 1 + k ≡ exponent_slot k
+few_slot k below = let least : min k 9 ≡ k = min-eq_left (omega arith) in rw least refl
+
+pub many_slot : (k : ℕ) → 10 ≤ k → 10 ≡ exponent_slot k
+many_slot k above = let least : min k 9 ≡ 9 = min-eq_right (omega arith) in rw least refl

@@ -1,9 +1,9 @@
 -- A reader keeps its place in the interval.
-use Rattle.std.proofs.Common.{◌≡◌, ◌≢◌, ℕ, ◌+◌, ◌-◌, ◌*◌, ◌<◌, ◌≤◌, List, [], ◌∷◌, Bool, true, false, cond, leb, slice_index, refl, sym, ap, ◌∙◌, subst, arith}
-use Rattle.std.proofs.lemmas.Bool.{leb-true, leb-false}
+use Rattle.std.proofs.Common.{◌≡◌, ◌≢◌, ℕ, ◌+◌, ◌-◌, ◌*◌, ◌/◌, ◌<◌, ◌≤◌, List, [], ◌∷◌, Bool, true, false, cond, leb, slice_index, refl, sym, ap, ◌∙◌, subst, arith}
+use Rattle.std.proofs.lemmas.Bool.{leb-true, leb-false, le-leb, lt-leb}
 use Rattle.range_coder.specs.Interval.{Interval, whole, part_of_one, part, narrow, first_bytes}
 use Rattle.range_coder.specs.Table.{IsState}
-use Rattle.range_coder.specs.Reading.{Reader, HasRead, ReadsOn, Begins}
+use Rattle.range_coder.specs.Reading.{Reader, HasRead, GoesOn, ReadsOn, Begins}
 use Rattle.range_coder.proofs.Intervals.{two_parts, with_byte, renewed_small, renewed_wide, first_more}
 use Rattle.range_coder.proofs.CodedLaws.{narrowed_one}
 
@@ -53,28 +53,48 @@ has_byte offset range byte rest rest' bytes i h small is follows =
       rest = λ k. follows k ∙ h.rest (k + 1) ∙ (let e : i.shifts + 2 + (k + 1) ≡ i.shifts + 1 + 2 + k = omega arith in ap (slice_index bytes) e);
     }
 
--- a decision read with a byte, and one without
-pub reads_by_byte : (before r : Reader) (state : ℕ) (bit : Bool) (offset range byte : ℕ) (rest' : List ℕ) → r ≡ before → IsState state → 256 ≤ r.range → bit ≡ leb (r.range - part_of_one r.range state) r.offset → offset ≡ cond bit (r.offset - (r.range - part_of_one r.range state)) r.offset → range ≡ cond bit (part_of_one r.range state) (r.range - part_of_one r.range state) → range < 256 → byte < 256 → byte ≡ slice_index r.rest 0 → ((k : ℕ) → slice_index rest' k ≡ slice_index r.rest (k + 1)) → ReadsOn before (reader (offset * 256 + byte) (range * 256) rest') (record { state = state; bit = bit } ∷ [])
-unfolding narrow
-reads_by_byte before r state bit offset range byte rest' same s wide is is_offset is_range small fits first follows = record {
-  reads = λ bytes i h.
-      let h' : HasRead r bytes i = subst (λ (x : Reader). HasRead x bytes i) (sym same) h in
-      let p : HasRead (reader offset range r.rest) bytes (part i state bit) = has_part r bytes i state bit offset range h' s wide is is_offset is_range in
-      let narrow_range : (part i state bit).range < 256 = subst (λ (n : ℕ). n < 256) p.range small in
-      let e = renewed_small (part i state bit) narrow_range in
-      rw (narrowed_one i state bit, e) (has_byte offset range byte r.rest rest' bytes (part i state bit) p fits first follows);
+-- a range that is renewed by a byte, and one that isn't
+pub goes_by_byte : (before r : Reader) (offset range byte : ℕ) (rest' : List ℕ) → r ≡ before → range < 256 → byte < 256 → byte ≡ slice_index r.rest 0 → ((k : ℕ) → slice_index rest' k ≡ slice_index r.rest (k + 1)) → GoesOn offset range before (reader (offset * 256 + byte) (range * 256) rest')
+goes_by_byte before r offset range byte rest' same small fits first follows = record {
+  goes = λ bytes i h.
+      let h' : HasRead (reader offset range r.rest) bytes i = subst (λ (x : Reader). HasRead (reader offset range x.rest) bytes i) (sym same) h in
+      let narrow_range : i.range < 256 = subst (λ (n : ℕ). n < 256) h'.range small in
+      let e = renewed_small i narrow_range in
+      rw e (has_byte offset range byte r.rest rest' bytes i h' fits first follows);
 }
 
-pub reads_within : (before r : Reader) (state : ℕ) (bit : Bool) (offset range : ℕ) → r ≡ before → IsState state → 256 ≤ r.range → bit ≡ leb (r.range - part_of_one r.range state) r.offset → offset ≡ cond bit (r.offset - (r.range - part_of_one r.range state)) r.offset → range ≡ cond bit (part_of_one r.range state) (r.range - part_of_one r.range state) → 256 ≤ range → ReadsOn before (reader offset range r.rest) (record { state = state; bit = bit } ∷ [])
+pub goes_within : (before r : Reader) (offset range : ℕ) → r ≡ before → 256 ≤ range → GoesOn offset range before (reader offset range r.rest)
+goes_within before r offset range same large = record {
+  goes = λ bytes i h.
+      let h' : HasRead (reader offset range r.rest) bytes i = subst (λ (x : Reader). HasRead (reader offset range x.rest) bytes i) (sym same) h in
+      let wide_range : 256 ≤ i.range = subst (λ (n : ℕ). 256 ≤ n) h'.range large in
+      let e = renewed_wide i wide_range in
+      rw e h';
+}
+
+-- a decision read
+pub reads_part : (before r after : Reader) (state : ℕ) (bit : Bool) (offset range : ℕ) → r ≡ before → IsState state → 256 ≤ r.range → bit ≡ leb (r.range - part_of_one r.range state) r.offset → offset ≡ cond bit (r.offset - (r.range - part_of_one r.range state)) r.offset → range ≡ cond bit (part_of_one r.range state) (r.range - part_of_one r.range state) → GoesOn offset range before after → ReadsOn before after (record { state = state; bit = bit } ∷ [])
 unfolding narrow
-reads_within before r state bit offset range same s wide is is_offset is_range large = record {
+reads_part before r after state bit offset range same s wide is is_offset is_range goes = record {
   reads = λ bytes i h.
       let h' : HasRead r bytes i = subst (λ (x : Reader). HasRead x bytes i) (sym same) h in
       let p : HasRead (reader offset range r.rest) bytes (part i state bit) = has_part r bytes i state bit offset range h' s wide is is_offset is_range in
-      let wide_range : 256 ≤ (part i state bit).range = subst (λ (n : ℕ). 256 ≤ n) p.range large in
-      let e = renewed_wide (part i state bit) wide_range in
-      rw (narrowed_one i state bit, e) p;
+      let p' : HasRead (reader offset range before.rest) bytes (part i state bit) = subst (λ (x : Reader). HasRead (reader offset range x.rest) bytes (part i state bit)) same p in
+      rw (narrowed_one i state bit) (goes.goes bytes (part i state bit) p');
 }
+
+-- the same, by a comparison
+pub one_read : (before r after : Reader) (state value : ℕ) → r ≡ before → IsState state → 256 ≤ r.range → value ≡ state → r.range - r.range * value / 256 ≤ r.offset → GoesOn (r.offset - (r.range - r.range * value / 256)) (r.range * value / 256) before after → ReadsOn before after (record { state = state; bit = true } ∷ [])
+one_read before r after state value same s wide is above goes =
+    let above' : r.range - part_of_one r.range state ≤ r.offset = subst (λ (n : ℕ). r.range - r.range * n / 256 ≤ r.offset) is above in
+    let goes' : GoesOn (r.offset - (r.range - part_of_one r.range state)) (part_of_one r.range state) before after = subst (λ (n : ℕ). GoesOn (r.offset - (r.range - r.range * n / 256)) (r.range * n / 256) before after) is goes in
+    reads_part before r after state true _ _ same s wide (sym (le-leb (r.range - part_of_one r.range state) r.offset above')) refl refl goes'
+
+pub zero_read : (before r after : Reader) (state value : ℕ) → r ≡ before → IsState state → 256 ≤ r.range → value ≡ state → r.offset < r.range - r.range * value / 256 → GoesOn r.offset (r.range - r.range * value / 256) before after → ReadsOn before after (record { state = state; bit = false } ∷ [])
+zero_read before r after state value same s wide is below goes =
+    let below' : r.offset < r.range - part_of_one r.range state = subst (λ (n : ℕ). r.offset < r.range - r.range * n / 256) is below in
+    let goes' : GoesOn r.offset (r.range - part_of_one r.range state) before after = subst (λ (n : ℕ). GoesOn r.offset (r.range - r.range * n / 256) before after) is goes in
+    reads_part before r after state false _ _ same s wide (sym (lt-leb (r.range - part_of_one r.range state) r.offset below')) refl refl goes'
 
 -- the first two bytes
 pub begins_with : (bytes rest rest' : List ℕ) (high low : ℕ) → ((k : ℕ) → slice_index bytes k < 256) → high ≡ slice_index bytes 0 → ((k : ℕ) → slice_index rest k ≡ slice_index bytes (k + 1)) → low ≡ slice_index rest 0 → ((k : ℕ) → slice_index rest' k ≡ slice_index rest (k + 1)) → high ≢ 255 → Begins (reader (high * 256 + low) 65280 rest') bytes

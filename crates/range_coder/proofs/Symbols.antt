@@ -1,5 +1,5 @@
 -- The parts of a symbol, put and got choice by choice.
-use Rattle.std.proofs.Common.{◌≡◌, ℕ, zero, suc, ◌+◌, ◌-◌, ◌*◌, ◌^◌, ◌<◌, ◌≤◌, List, [], ◌∷◌, ◌++◌, Bool, true, false, refl, sym, subst, arith}
+use Rattle.std.proofs.Common.{◌≡◌, ℕ, zero, suc, ◌+◌, ◌-◌, ◌*◌, ◌^◌, ◌<◌, ◌≤◌, List, [], ◌∷◌, ◌++◌, Bool, true, false, refl, sym, subst, arith, append_assoc}
 use Rattle.range_coder.specs.Table.{AreLive}
 use Rattle.range_coder.specs.Reading.{Reader}
 use Rattle.range_coder.specs.Encoding.{Encoding}
@@ -164,3 +164,15 @@ symbol_by_number P value signed negative magnitude is sign some p =
 pub some_got : (table : List ℕ) (before : Reader) (states : List ℕ) (after : Reader) (left : List ℕ) (bit : Bool) → bit ≡ false → Gets table before states after left (choice 0 bit ∷ []) → Gets table before states after left some
 some_got table before states after left bit is g =
     subst (λ (b : Bool). Gets table before states after left (choice 0 b ∷ [])) is g
+
+-- the same, where the bits and the sign were got together
+pub rest_got : (table : List ℕ) (r0 : Reader) (s0 : List ℕ) (r1 : Reader) (s1 : List ℕ) (r2 : Reader) (s2 : List ℕ) (e magnitude : ℕ) (negative signed : Bool) (value : ℤ) → unsigned_abs value ≡ magnitude → is_negative value ≡ negative → Gets table r0 s0 r1 s1 (low_bits e magnitude) → Gets table r1 s1 r2 s2 (sign_choices signed e negative) → Gets table r0 s0 r2 s2 (low_bits e (unsigned_abs value) ++ sign_choices signed e (is_negative value))
+rest_got table r0 s0 r1 s1 r2 s2 e magnitude negative signed value is sign a b =
+    rw (is, sign) (gets_more table r0 s0 r1 s1 r2 s2 (low_bits e magnitude) (sign_choices signed e negative) a b)
+
+pub value_got : (table : List ℕ) (r0 : Reader) (s0 : List ℕ) (r1 : Reader) (s1 : List ℕ) (r2 : Reader) (s2 : List ℕ) (r3 : Reader) (s3 : List ℕ) (e : ℕ) (signed bit : Bool) (value : ℤ) → bit ≡ false → 2 ^ e ≤ unsigned_abs value → unsigned_abs value < 2 * 2 ^ e → e ≤ 30 → Gets table r0 s0 r1 s1 (choice 0 bit ∷ []) → Gets table r1 s1 r2 s2 (exponent_choices e) → Gets table r2 s2 r3 s3 (low_bits e (unsigned_abs value) ++ sign_choices signed e (is_negative value)) → Gets table r0 s0 r3 s3 (symbol_choices value signed)
+value_got table r0 s0 r1 s1 r2 s2 r3 s3 e signed bit value clear low high within a b c =
+    let first : Gets table r0 s0 r2 s2 (some ++ exponent_choices e) = gets_more table r0 s0 r1 s1 r2 s2 some (exponent_choices e) (some_got table r0 s0 r1 s1 bit clear a) b in
+    let all : Gets table r0 s0 r3 s3 (some ++ exponent_choices e ++ (low_bits e (unsigned_abs value) ++ sign_choices signed e (is_negative value))) = gets_more table r0 s0 r2 s2 r3 s3 (some ++ exponent_choices e) (low_bits e (unsigned_abs value) ++ sign_choices signed e (is_negative value)) first c in
+    let number : Gets table r0 s0 r3 s3 (number_choices e (unsigned_abs value) (is_negative value) signed) = subst (λ (cs : List Choice). Gets table r0 s0 r3 s3 cs) (sym (append_assoc (some ++ exponent_choices e) (low_bits e (unsigned_abs value)) (sign_choices signed e (is_negative value)))) all in
+    symbol_got table r0 s0 r3 s3 e (unsigned_abs value) value (is_negative value) signed refl refl low high within number

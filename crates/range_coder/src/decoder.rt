@@ -1,6 +1,6 @@
 ghost use Rattle.std.specs.Prelude.{◌≡◌, ℕ, ◌+◌, ◌-◌, ◌<◌, ◌≤◌, ◌↔◌, [], ◌∷◌, nat_le, if◌then◌else◌, slice_index, length, IsNone, IfSome, IfOk, OnErr};
 ghost use Rattle.range_coder.specs.Interval.{part_of_one};
-ghost use Rattle.range_coder.specs.Reading.{Begins, ReadsOn};
+ghost use Rattle.range_coder.specs.Reading.{Begins, ReadsOn, GoesOn};
 ghost use Rattle.range_coder.specs.Table.{IsState, IsLive, IsClosed, AreLive, next_state};
 ghost use Rattle.range_coder.specs.Choices.{moved};
 ghost use Rattle.range_coder.specs.Coding.{Gets};
@@ -71,6 +71,41 @@ impl<'a> Decoder<'a> {
     {
         let (bit, offset, range) = part(self.offset, self.range, *state);
         *state = table.next(*state, bit);
+        self.renew(offset, range);
+        bit
+    }
+
+    // The same, for a bit on which the caller branches, as this does.
+    #[inline(always)]
+    fn get_flag(&mut self, table: &Table, state: &mut u8) -> bool
+        requires live { IsLive table.now state.old }
+        ensures reads { ReadsOn self.old self.new (record { state = state.old; bit = result } ∷ []) }
+        ensures next { state.new ≡ next_state table.now state.old result }
+        ensures live { IsLive table.now state.new }
+        ensures closed { IsClosed table.now }
+    {
+        let offset = self.offset;
+        let range = self.range;
+        let ones = range * u32::from(*state) / 256;
+        let zeros = range - ones;
+        if offset >= zeros {
+            *state = table.next(*state, true);
+            self.renew(offset - zeros, ones);
+            true
+        } else {
+            *state = table.next(*state, false);
+            self.renew(offset, zeros);
+            false
+        }
+    }
+
+    // Goes on with the part of the range that was decided, and with a byte more where it has become small.
+    #[inline(always)]
+    fn renew(&mut self, offset: u32, range: u32)
+        requires inside { offset < range }
+        requires most { range ≤ 65280 }
+        ensures { GoesOn offset range self.old self.new }
+    {
         if range < 256 {
             let (byte, rest) = split_byte(self.rest);
             self.rest = rest;
@@ -80,7 +115,6 @@ impl<'a> Decoder<'a> {
             self.offset = offset;
             self.range = range;
         }
-        bit
     }
 
     /// Reads a bit with the state of a slot, of any number of states, and adapts it. It takes no memory.
@@ -93,6 +127,18 @@ impl<'a> Decoder<'a> {
         ensures closed { IsClosed table.now }
     {
         self.get(table, &mut states[slot])
+    }
+
+    // The same, for a bit on which the caller branches.
+    #[inline(always)]
+    pub(crate) fn get_flag_slot(&mut self, table: &Table, states: &mut [u8], slot: usize) -> bool
+        requires slot { slot < length states.old }
+        requires live { AreLive table.now states.old }
+        ensures gets { Gets table.now self.old states.old self.new states.new (choice slot result ∷ []) }
+        ensures live { AreLive table.now states.new }
+        ensures closed { IsClosed table.now }
+    {
+        self.get_flag(table, &mut states[slot])
     }
 
     /// Reads a number with the 32 states that begin at a slot, of any number of states, and adapts them. It is

@@ -87,7 +87,8 @@ impl Encoder {
         ensures live { AreLive table.now states.new }
         ensures closed { IsClosed table.now }
     {
-        self.window.put_slot(&mut self.bytes, table, states, slot, bit)
+        self.window
+            .put_slot(&mut self.bytes, table, states, slot, bit)
     }
 
     // Codes a number with a set of states.

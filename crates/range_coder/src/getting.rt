@@ -8,6 +8,9 @@ ghost use Rattle.range_coder.specs.Symbol.{IsCodable, symbol_choices, overlong_c
 
 use crate::{BadSymbol, Decoder, Table};
 
+/// A number with a smaller exponent is coded apart from the others, with slots that are known.
+const SHORT: usize = 10;
+
 /// Reads a number with a set.
 #[inline(always)]
 pub(crate) fn get_value(
@@ -24,16 +27,41 @@ pub(crate) fn get_value(
     ensures live { AreLive table.now set.new }
     ensures closed { IsClosed table.now }
 {
-    if decoder.get_slot(table, set, 0) {
+    if decoder.get_flag_slot(table, set, 0) {
         return Ok(0);
     }
     let exponent = get_exponent(decoder, table, set)?;
-    let magnitude = get_low_bits(decoder, table, set, exponent);
-    let negative = get_sign(decoder, table, set, exponent, signed);
-    Ok(with_sign(magnitude, negative))
+    if exponent < SHORT {
+        return Ok(get_rest(decoder, table, set, exponent, signed));
+    }
+    Ok(get_rest(decoder, table, set, exponent, signed))
 }
 
-// Reads an exponent.
+// Reads what is behind the exponent: the bits below the highest one, and the sign.
+#[inline(always)]
+fn get_rest(
+    decoder: &mut Decoder<'_>,
+    table: &Table,
+    set: &mut [u8],
+    exponent: usize,
+    signed: bool,
+) -> i32
+    requires set { length set.old ≡ 32 }
+    requires live { AreLive table.now set.old }
+    requires exponent { exponent ≤ 30 }
+    ensures gets { Gets table.now decoder.old set.old decoder.new set.new (low_bits exponent (unsigned_abs result) ++ sign_choices signed exponent (is_negative result)) }
+    ensures low { 2 ^ exponent ≤ unsigned_abs result }
+    ensures high { unsigned_abs result < 2 * 2 ^ exponent }
+    ensures unsigned { signed ≡ false → is_negative result ≡ false }
+    ensures fits { FitsSigned w32 result }
+    ensures live { AreLive table.now set.new }
+{
+    let magnitude = get_low_bits(decoder, table, set, exponent);
+    let negative = get_sign(decoder, table, set, exponent, signed);
+    with_sign(magnitude, negative)
+}
+
+// Reads an exponent. From 10 ones on they share a slot.
 #[inline(always)]
 #[tactic(auto, using(crate::proofs::Symbols::coded_ones))]
 fn get_exponent(
@@ -48,9 +76,14 @@ fn get_exponent(
     ensures bad { OnErr result (Gets table.now decoder.old set.old decoder.new set.new (ones 31)) }
     ensures live { AreLive table.now set.new }
 {
-    for exponent in 0..31_usize {
-        if !decoder.get_slot(table, set, 1 + exponent.min(9)) {
-            return Ok(exponent);
+    for few in 0..SHORT {
+        if !decoder.get_flag_slot(table, set, 1 + few) {
+            return Ok(few);
+        }
+    }
+    for many in SHORT..31 {
+        if !decoder.get_flag_slot(table, set, 10) {
+            return Ok(many);
         }
     }
     Err(BadSymbol)
@@ -59,12 +92,7 @@ fn get_exponent(
 // Reads the bits below the highest one, and answers the magnitude.
 #[inline(always)]
 #[tactic(auto, using(crate::proofs::LowBits::coded_bits))]
-fn get_low_bits(
-    decoder: &mut Decoder<'_>,
-    table: &Table,
-    set: &mut [u8],
-    exponent: usize,
-) -> u32
+fn get_low_bits(decoder: &mut Decoder<'_>, table: &Table, set: &mut [u8], exponent: usize) -> u32
     requires set { length set.old ≡ 32 }
     requires live { AreLive table.now set.old }
     requires exponent { exponent ≤ 30 }

@@ -11,6 +11,8 @@ mod sharing;
 mod states;
 mod symbol;
 mod table;
+#[cfg(test)]
+mod tests;
 mod window;
 
 pub use decoder::Decoder;

@@ -16,6 +16,9 @@ use cook_bits::NoMemory;
 /// The states of a set.
 const SET: usize = 32;
 
+/// A number with a smaller exponent is coded apart from the others, with slots that are known.
+const SHORT: usize = 10;
+
 /// Codes numbers one after another, each with the set that begins at its slot.
 pub(crate) fn put_line(
     window: &mut Window,
@@ -111,6 +114,39 @@ fn put_number(
     ensures window { IsWindow bytes.new.items window.new.low window.new.range }
 {
     let exponent = exponent_of(magnitude);
+    if exponent < SHORT {
+        return put_parts(
+            window, bytes, table, set, exponent, magnitude, negative, signed,
+        );
+    }
+    put_parts(
+        window, bytes, table, set, exponent, magnitude, negative, signed,
+    )
+}
+
+// Codes a number that isn't 0, whose exponent is known.
+#[inline(always)]
+fn put_parts(
+    window: &mut Window,
+    bytes: &mut Vec<u8>,
+    table: &Table,
+    set: &mut [u8],
+    exponent: usize,
+    magnitude: u32,
+    negative: bool,
+    signed: bool,
+) -> Result<(), NoMemory>
+    requires set { length set.old ≡ 32 }
+    requires live { AreLive table.now set.old }
+    requires exponent { exponent ≡ exponent_of magnitude }
+    requires high { exponent < 32 }
+    requires window { IsWindow bytes.old.items window.old.low window.old.range }
+    ensures ok { OnOk result (Puts table.now (held window.old bytes.old) set.old (held window.new bytes.new) set.new (number_choices (exponent_of magnitude) magnitude negative signed)) }
+    ensures err { OnErr result (PutsFront table.now (held window.old bytes.old) set.old (held window.new bytes.new) set.new (number_choices (exponent_of magnitude) magnitude negative signed)) }
+    ensures live { AreLive table.now set.new }
+    ensures closed { IsClosed table.now }
+    ensures window { IsWindow bytes.new.items window.new.low window.new.range }
+{
     window.put_slot(bytes, table, set, 0, false)?;
     put_exponent(window, bytes, table, set, exponent)?;
     put_low_bits(window, bytes, table, set, exponent, magnitude)?;

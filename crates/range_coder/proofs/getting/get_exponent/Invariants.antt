@@ -2,6 +2,8 @@ use Rattle.range_coder.specs.Symbol.{ones}
 use Rattle.range_coder.proofs.Symbols.{HasGot}
 use Rattle.range_coder.proofs.getting.get_exponent.Given as goal
 
-abbrev pub invariant-loop-exponent : goal.invariant-loop-exponent
-invariant-loop-exponent l =
-    HasGot l.table l.initial.decoder l.initial.set l.decoder l.set (ones l.exponent)
+abbrev pub invariant-loop-few : goal.invariant-loop-few
+invariant-loop-few l = HasGot l.table l.fn.decoder l.fn.set l.decoder l.set (ones l.few)
+
+abbrev pub invariant-loop-many : goal.invariant-loop-many
+invariant-loop-many l = HasGot l.table l.fn.decoder l.fn.set l.decoder l.set (ones l.many)

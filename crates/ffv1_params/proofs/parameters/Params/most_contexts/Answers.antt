@@ -1,4 +1,4 @@
-use Rattle.std.proofs.Common.{List, ap, ◌∙◌, sym, arith}
+use Rattle.std.proofs.Common.{ap, ◌∙◌, arith}
 use Rattle.ffv1_params.specs.Parameters.{Parameters}
 use Rattle.ffv1_params.specs.QuantTables.{most_contexts}
 use Rattle.ffv1_params.proofs.MostContexts.{each_of, most_some}
