@@ -12,5 +12,10 @@ pub mod PadRuns
 pub mod PadShortest
 pub mod Rounds
 pub mod Rows
+pub mod TileLines
+pub mod TileMoves
+pub mod TilePlaces
+pub mod TileSums
+pub mod TileWhole
 pub mod UnitRounds
 pub mod Written

@@ -2,6 +2,9 @@ pub mod Blocks
 pub mod FrameParts
 pub mod Laws
 pub mod Line
+pub mod Moves
 pub mod PadForms
 pub mod PadLaws
+pub mod TileLaws
+pub mod Tiles
 pub mod Units

@@ -10,13 +10,14 @@ mod pad_filling;
 mod pad_form;
 pub mod pad_laws;
 mod pad_runs;
+mod sharing;
+mod tile;
+pub mod tile_laws;
+mod tiling;
 mod units;
 
 pub use frame::{join, pads_fit, split};
 pub use pad_filling::{PadBad, pad_fill};
 pub use pad_form::pad_record;
-
-#[cfg(test)]
-mod pad_tests;
-#[cfg(test)]
-mod tests;
+pub use tile::Tile;
+pub use tiling::{from_tiles, to_tiles};

@@ -1,0 +1,9 @@
+// The types that workers share or are handed: stated here, in the crate that declares them.
+use crate::OpenGate;
+
+fn is_shared<T: Send + Sync>() {}
+
+/// States that `OpenGate` may be sent to and shared between threads.
+pub fn shared_types() {
+    is_shared::<OpenGate>();
+}
