@@ -1,0 +1,13 @@
+pub mod Free
+pub mod Given
+pub mod Growing
+pub mod Hanging
+pub mod Orders
+pub mod Pieces
+pub mod Refusals
+pub mod Searches
+pub mod Spans
+pub mod Trees
+pub mod Sorting
+pub mod Walked
+pub mod Walks
