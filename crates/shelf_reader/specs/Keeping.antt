@@ -24,6 +24,11 @@ StopsFor g len old new (errors.Short now) = now < len
 StopsFor g len old new errors.Failed = Failed g old new
 StopsFor g len old new errors.NoMemory = Unit {0}
 
+-- a fault of the bytes, and no other cause
+abbrev pub IsFault : {F : Type 0} → ReadError F → Type 0
+IsFault (errors.Fault fault) = Unit {0}
+IsFault error = ⊥
+
 -- The same file is read, from the same shelf, of which was only read, and the reader is ready again.
 pub record Keeps {S : Type 0} (g : Ghosts S) (old new : Reader S) : Type 0 where
   pub same_shelf : new.shelf.ghost_name ≡ old.shelf.ghost_name

@@ -55,6 +55,13 @@ impl<'a, 'b, S: Shelf> Reader<'a, 'b, S> {
         }
     }
 
+    /// The allocator that readings take memory from.
+    pub fn alloc(&self) -> Global
+        ensures { result ≡ self.now.alloc }
+    {
+        self.alloc
+    }
+
     /// The length of the file in bytes, as it was said.
     pub fn len(&self) -> u64
         ensures { result ≡ self.now.len }
