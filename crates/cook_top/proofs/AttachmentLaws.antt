@@ -111,7 +111,7 @@ pub record IsRead (bytes : List ℕ) (element : Element) (name : List ℕ) (side
   pub is : IsAttached bytes name side content file
 
 -- what is read of a name, a media type and a content
-file_seen : Span → Span → Span → List ℕ → FileAt
+abbrev file_seen : Span → Span → Span → List ℕ → FileAt
 file_seen name media content bytes = record { name = between name.start name.end bytes; side = is_text_between side_media_type media.start media.end bytes; at = content.start; len = content.end - content.start }
 
 media_tells : (side : Bool) → is_same_text (media_type side) side_media_type ≡ side

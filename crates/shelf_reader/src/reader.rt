@@ -178,7 +178,14 @@ impl<'a, 'b, S: Shelf> Reader<'a, 'b, S> {
             return Ok(Bytes::copy(self.alloc, self.part(from, to))?);
         }
         let mut bytes = Vec::new(self.alloc);
-        fill_buffer(self.shelf, self.name, self.len, from, count as usize, &mut bytes)?;
+        fill_buffer(
+            self.shelf,
+            self.name,
+            self.len,
+            from,
+            count as usize,
+            &mut bytes,
+        )?;
         Ok(Bytes::from_vec(bytes))
     }
 

@@ -73,7 +73,11 @@ impl Children<Ebml> for Fields {
 
     ghost Fits = { AreSpans };
 
-    fn with_child<S: Shelf>(self, reader: &mut Reader<'_, '_, S>, child: Element) -> Reading<Fields> {
+    fn with_child<S: Shelf>(
+        self,
+        reader: &mut Reader<'_, '_, S>,
+        child: Element,
+    ) -> Reading<Fields> {
         let _ = reader;
         Ok(with_field(self, child))
     }
@@ -145,5 +149,11 @@ pub fn read_file<S: Shelf>(reader: &mut Reader<'_, '_, S>, element: Element) -> 
         content: None,
     };
     let fields = walk::<S, Ebml, Fields>(reader, unseen, element.start, element.end)?;
-    file_of(reader, element.place, fields.name, fields.media_type, fields.content)
+    file_of(
+        reader,
+        element.place,
+        fields.name,
+        fields.media_type,
+        fields.content,
+    )
 }

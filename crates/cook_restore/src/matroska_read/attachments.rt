@@ -26,7 +26,11 @@ impl Children<Ebml> for Outline {
 
     ghost Fits = { AllEndBy };
 
-    fn with_child<S: Shelf>(self, reader: &mut Reader<'_, '_, S>, child: Element) -> Reading<Outline> {
+    fn with_child<S: Shelf>(
+        self,
+        reader: &mut Reader<'_, '_, S>,
+        child: Element,
+    ) -> Reading<Outline> {
         let mut files = self;
         if child.id != ATTACHED_FILE {
             return Ok(files);
@@ -39,7 +43,10 @@ impl Children<Ebml> for Outline {
 
 /// The files of Attachments.
 #[tactic(auto, using(crate::proofs::FileLaws::ends_laws))]
-pub fn read_attachments<S: Shelf>(reader: &mut Reader<'_, '_, S>, element: Element) -> Reading<Outline>
+pub fn read_attachments<S: Shelf>(
+    reader: &mut Reader<'_, '_, S>,
+    element: Element,
+) -> Reading<Outline>
     requires ready { IsReady S.Shelf reader.old }
     requires inside { KeepsInside reader.old.len element }
     ensures exact { Answers (known S.Shelf reader.old) (walked_children visit_attachments element []) result }

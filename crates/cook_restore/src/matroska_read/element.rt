@@ -136,10 +136,7 @@ pub fn read_element<S: Shelf>(
 
 /// The Segment at a place of the file.
 #[tactic(auto, using(shelf_reader::proofs::ReadingLaws::reading_laws, shelf_reader::proofs::KeepingLaws::keeping_laws), unfolding(crate::specs::Walk::segment_in))]
-pub fn read_segment_head<S: Shelf>(
-    reader: &mut Reader<'_, '_, S>,
-    place: u64,
-) -> Reading<Element>
+pub fn read_segment_head<S: Shelf>(reader: &mut Reader<'_, '_, S>, place: u64) -> Reading<Element>
     requires ready { IsReady S.Shelf reader.old }
     requires within { place ≤ reader.old.len }
     ensures exact { Answers (known S.Shelf reader.old) (segment_in reader.old.len place) result }
