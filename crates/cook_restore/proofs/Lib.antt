@@ -1,14 +1,10 @@
-pub mod AttachedLaws
 pub mod ContentLaws
-pub mod ElementLaws
 pub mod FileLaws
 pub mod GiveLaws
-pub mod HeaderLaws
+pub mod HeadLaws
 pub mod MeaningLaws
 pub mod NextLaws
+pub mod NumberLaws
 pub mod OpenLaws
-pub mod SeenLaws
-pub mod TopLaws
-pub mod WalkLaws
-pub mod WindowLaws
 pub mod SpelledWalk
+pub mod TopLaws

@@ -17,6 +17,8 @@ use Rattle.reversal.proofs.Found.{names_in_order}
 use Rattle.cook_restore.specs.Meaning.{Meaning, meaning_of, outline_meant, side_meant, records_meant, files_meant, with_file_meant, content_meant, side_of, bytes_at}
 use Rattle.cook_restore.specs.Outline.{outline_of}
 use Rattle.cook_restore.specs.Restoring.{AreSideRecords, IsMeant, IsEnd}
+use Rattle.cook_restore.specs.declared.matroska_read.error.OutlineFault.{OutlineFault}
+use Rattle.cook_restore.specs.declared.matroska_read.error.OutlineFault.TheVariants as outlined
 use Rattle.cook_restore.specs.declared.matroska_read.files.FileAt.{FileAt}
 use Rattle.cook_restore.specs.declared.error.FileWhy.{FileWhy}
 use Rattle.cook_restore.specs.declared.error.PackageWhy.{PackageWhy}
@@ -135,10 +137,10 @@ unfolding side_meant
 side-in-order attached bytes None = no-names
 side-in-order attached bytes (Some side) = records-in-order attached bytes (bytes_at side bytes) (side_read (bytes_at side bytes)) refl
 
-outline-in-order : (bytes : List ℕ) (o : Result (List FileAt) ℕ) → AreInOrder (outline_meant bytes o)
+outline-in-order : (bytes : List ℕ) (o : Result (List FileAt) OutlineFault) → AreInOrder (outline_meant bytes o)
 unfolding outline_meant
 outline-in-order bytes (Ok attached) = side-in-order attached bytes (side_of attached)
-outline-in-order bytes (Err place) = no-names
+outline-in-order bytes (Err (outlined.Shape place)) = no-names
 
 -- the names of the files that a package means are relative, rise, and none is under another
 pub files_in_order : (bytes : List ℕ) → AreNames (map (λ (file : File). file.0) (meaning_of bytes).files)

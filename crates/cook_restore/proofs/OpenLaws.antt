@@ -16,13 +16,14 @@ use Rattle.cook_restore.specs.Inside.{EndsBy, AllEndBy}
 use Rattle.cook_restore.specs.Meaning.{meaning_of, outline_meant, side_meant, records_meant, nothing_for, why_of_side, side_of, bytes_at}
 use Rattle.cook_restore.specs.Outline.{outline_of}
 use Rattle.cook_restore.specs.Restoring.{AreSideRecords, IsNotOpened, IsMissing, IsRefused, IsBeforeFiles, NotRead, NotOutlined, NotRecorded}
-use Rattle.cook_restore.specs.Seen.{StopsFor, IsRefusal}
+use Rattle.cook_restore.specs.Answered.{StopsFor, IsRefusal}
 use Rattle.cook_restore.specs.declared.error.PackageWhy.{PackageWhy}
 use Rattle.cook_restore.specs.declared.error.PackageWhy.TheVariants as broken
 use Rattle.cook_restore.specs.declared.error.RestoreError.{RestoreError}
 use Rattle.cook_restore.specs.declared.error.RestoreError.TheVariants as unopened
 use Rattle.cook_restore.specs.declared.matroska_read.error.OutlineError.{OutlineError}
 use Rattle.cook_restore.specs.declared.matroska_read.error.OutlineError.TheVariants as outlined
+use Rattle.cook_restore.specs.declared.matroska_read.error.OutlineFault.TheVariants as faults
 use Rattle.cook_restore.specs.declared.matroska_read.files.FileAt.{FileAt}
 
 -- ---- the length
@@ -63,7 +64,7 @@ short-not_opened told pkg len faults faults_now at answer untold early is = absu
 refused : (told : Told) (pkg : List ℕ) (why other : PackageWhy) → other ≡ why → IsBeforeFiles why → HasFile told pkg → (IsTold told → meaning_of (content told pkg) ≡ nothing_for why) → IsRefused told pkg other
 refused told pkg why other is before there meant = subst (IsRefused told pkg) (sym is) (record { before = before; there = there; meant = meant })
 
-shape-meant : (bytes : List ℕ) (place : ℕ) → outline_of bytes ≡ Err place → meaning_of bytes ≡ nothing_for (broken.Shape place)
+shape-meant : (bytes : List ℕ) (place : ℕ) → outline_of bytes ≡ Err (faults.Shape place) → meaning_of bytes ≡ nothing_for (broken.Shape place)
 unfolding meaning_of outline_meant
 shape-meant bytes place is = ap (outline_meant bytes) is
 

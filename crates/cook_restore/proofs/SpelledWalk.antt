@@ -1,7 +1,8 @@
 -- A walk over elements that are spelled one after the other.
-use Rattle.std.proofs.Common.{◌≡◌, ℕ, ◌+◌, ◌-◌, ◌^◌, ◌<◌, ◌≤◌, nat_le, true, false, List, [], ◌∷◌, ◌++◌, length, take, drop, Some, None, Ok, refl, sym, ap, ◌∙◌, arith, append_assoc, length-append}
+use Rattle.std.proofs.Common.{◌≡◌, ℕ, ◌+◌, ◌-◌, ◌^◌, ◌<◌, ◌≤◌, nat_le, ◌==◌, true, false, List, [], ◌∷◌, ◌++◌, length, take, drop, Some, None, Ok, refl, sym, ap, ◌∙◌, arith, append_assoc, length-append}
 use Rattle.std.proofs.Math.Seq.{drop-append_seam, take-append-add, take-append_seam}
 use Rattle.std.proofs.lemmas.Bool.{le-leb}
+use Rattle.std.proofs.lemmas.Bool.Decides.{nat_tests}
 use Rattle.std.proofs.lemmas.List.{drop-drop}
 use Rattle.ebml_core.specs.Element.{IsIdentifier, head_of, element}
 use Rattle.ebml_core.specs.Reading.{head_at}
@@ -14,9 +15,26 @@ use Rattle.cook_restore.specs.declared.matroska_read.parts.Element.{Element}
 use Rattle.cook_restore.specs.declared.matroska_read.files.FileAt.{FileAt}
 use Rattle.cook_restore.specs.Identifiers.{ebml_header, segment, attachments, attached_file}
 use Rattle.cook_restore.specs.Outline.{visit_header, header_read, header_of, file_read, visit_attachments, attachments_visited, visit_segment, segment_read, outline_of}
-use Rattle.cook_restore.proofs.HeaderLaws.{same_id}
-use Rattle.cook_restore.specs.Walk.{content_of, and_then, head_in, sized, element_of, element_in, segment_sized, segment_of, segment_in, Visit, walked, walked_children}
-use Rattle.cook_restore.proofs.WalkLaws.{walked-next}
+use Rattle.shelf_reader.specs.Readings.{gives, fails, looks, thence_of, thence}
+use Rattle.shelf_reader.specs.Seen.{between}
+use Rattle.shelf_reader.specs.Walk.{walked}
+use Rattle.shelf_reader.proofs.WalkLaws.{GoesOn, onward}
+use Rattle.shelf_reader.proofs.WalkLaws as walks
+use Rattle.cook_restore.specs.Outline.{Visits, attachments_seen, no_doc_type, nothing_seen, outline_in}
+use Rattle.cook_restore.specs.Walk.{content_of, head_in, sized, element_of, element_in, segment_sized, segment_of, segment_in, ebml, walked_children}
+use Rattle.cook_restore.specs.WalkGoesOn.{element_goes_on}
+use Rattle.cook_restore.specs.declared.matroska_read.parts.HeaderSeen.{HeaderSeen}
+use Rattle.cook_restore.specs.declared.matroska_read.parts.SegmentSeen.{SegmentSeen}
+
+pub same_id : (a b : ℕ) → a ≡ b → (a == b) ≡ true
+same_id a b e = grind (arith, nat_tests)
+
+goes : GoesOn ebml
+goes end place bytes element read = element_goes_on end place bytes element read
+
+-- a walk at the parent's end is over
+pub walked-end : {State : Type 0} (visit : Visits State) (end : ℕ) (state : State) (place : ℕ) (bytes : List ℕ) → end ≤ place → walked ebml visit end state place bytes ≡ Ok state
+walked-end visit end state place bytes h = walks.walked-end ebml goes visit end state place bytes h
 
 -- at a place of the bytes stands a piece, and behind it the rest
 pub record Stands (bytes : List ℕ) (place : ℕ) (piece rest : List ℕ) : Type 0 where
@@ -54,7 +72,7 @@ between-piece bytes place piece rest stands = ap (take (length piece)) stands.he
 
 -- a head is read in a parent that has room for it
 head_in-spelled : (bytes : List ℕ) (end place id : ℕ) (content rest : List ℕ) → IsSpelled bytes end place id content rest → head_in end place bytes ≡ Some (record { id = id; size = Known (length content); len = length (head_of id (length content)) })
-unfolding element
+unfolding element head_in
 head_in-spelled bytes end place id content rest is =
     let head = head_of id (length content) in
     let room : end - place ≡ length head + (end - place - length head) = omega (arith, is.within, length-append head content) in
@@ -65,7 +83,7 @@ head_in-spelled bytes end place id content rest is =
 
 -- a spelled element is the element at its place
 pub element_in-spelled : (bytes : List ℕ) (end place id : ℕ) (content rest : List ℕ) → IsSpelled bytes end place id content rest → element_in end place bytes ≡ Ok (spelled place id (length content))
-unfolding element_in element_of sized
+unfolding element_in element_of sized looks gives
 element_in-spelled bytes end place id content rest is =
     let fits : nat_le (place + length (head_of id (length content)) + length content) end ≡ true = le-leb _ _ (omega (arith, is.within, length-element id content)) in
     rw (head_in-spelled bytes end place id content rest is, fits) refl
@@ -84,18 +102,19 @@ content_of-spelled bytes end place id content rest is =
 -- ---- a walk
 
 -- it visits the element at its place, and goes on behind it
-pub walked-spelled : {State : Type 0} (visit : Visit State) (bytes : List ℕ) (end place id : ℕ) (content rest : List ℕ) (state next : State) → IsSpelled bytes end place id content rest → visit state (spelled place id (length content)) bytes ≡ Ok next
-    → walked visit end state place bytes ≡ walked visit end next (place + length (element id content)) bytes
-unfolding and_then
+pub walked-spelled : {State : Type 0} (visit : Visits State) (bytes : List ℕ) (end place id : ℕ) (content rest : List ℕ) (state next : State) → IsSpelled bytes end place id content rest → visit state (spelled place id (length content)) bytes ≡ Ok next
+    → walked ebml visit end state place bytes ≡ walked ebml visit end next (place + length (element id content)) bytes
+unfolding onward thence thence_of
 walked-spelled visit bytes end place id content rest state next is visited =
     let before : place < end = omega (arith, is.within, length-element id content, length-head_of id (length content), shortest_size-positive (length content)) in
     let ends : place + length (head_of id (length content)) + length content ≡ place + length (element id content) = omega (arith, length-element id content) in
-    walked-next visit end state place bytes before ∙ rw (element_in-spelled bytes end place id content rest is, visited) (ap (λ (n : ℕ). walked visit end next n bytes) ends)
+    walks.walked-next ebml goes visit end state place bytes before ∙ rw (element_in-spelled bytes end place id content rest is, visited) (ap (λ (n : ℕ). walked ebml visit end next n bytes) ends)
 
 -- ---- a Segment of unknown size
 
 -- a head that the bytes at a place begin with
 head_in-front : (bytes : List ℕ) (end place : ℕ) (front rest : List ℕ) (head : Head) → head_at front ≡ Some head → Stands bytes place front rest → place + length front ≤ end → head_in end place bytes ≡ Some head
+unfolding head_in
 head_in-front bytes end place front rest head read stands within =
     let room : end - place ≡ length front + (end - place - length front) = omega arith in
     ap (λ (l : List ℕ). head_at (take (end - place) l)) stands.here
@@ -106,32 +125,32 @@ head_in-front bytes end place front rest head read stands within =
 -- it ends with the file
 pub segment_in-unknown : (bytes : List ℕ) (end place len : ℕ) (front rest : List ℕ) → head_at front ≡ Some (record { id = segment; size = Unknown; len = len }) → Stands bytes place front rest → place + length front ≤ end
     → segment_in end place bytes ≡ Ok (record { place = place; id = segment; start = place + len; end = end })
-unfolding segment_in segment_of segment_sized
+unfolding segment_in segment_of segment_sized looks gives
 segment_in-unknown bytes end place len front rest read stands within = rw (head_in-front bytes end place front rest _ read stands within) refl
 
 -- ---- the outline
 
 -- an AttachedFile that is read is one more file
 visit_attachments-file : (bytes : List ℕ) (before : List FileAt) (child : Element) (file : FileAt) → child.id ≡ attached_file → file_read child bytes ≡ Ok file → visit_attachments before child bytes ≡ Ok (before ++ file ∷ [])
-unfolding visit_attachments and_then
+unfolding visit_attachments thence thence_of gives
 visit_attachments-file bytes before child file is read = rw (same_id child.id attached_file is, read) refl
 
 pub walked-file : (bytes : List ℕ) (end place : ℕ) (content rest : List ℕ) (before : List FileAt) (file : FileAt) → IsSpelled bytes end place attached_file content rest → file_read (spelled place attached_file (length content)) bytes ≡ Ok file
-    → walked visit_attachments end before place bytes ≡ walked visit_attachments end (before ++ file ∷ []) (place + length (element attached_file content)) bytes
+    → walked ebml visit_attachments end before place bytes ≡ walked ebml visit_attachments end (before ++ file ∷ []) (place + length (element attached_file content)) bytes
 walked-file bytes end place content rest before file is read =
     walked-spelled visit_attachments bytes end place attached_file content rest before (before ++ file ∷ []) is (visit_attachments-file bytes before (spelled place attached_file (length content)) file refl read)
 
 -- the Attachments that are read are the files of the Segment
-pub visit_segment-attachments : (bytes : List ℕ) (place len : ℕ) (files : List FileAt) → walked_children visit_attachments (spelled place attachments len) [] bytes ≡ Ok files → visit_segment None (spelled place attachments len) bytes ≡ Ok (Some files)
-unfolding visit_segment attachments_visited and_then
+pub visit_segment-attachments : (bytes : List ℕ) (place len : ℕ) (files : List FileAt) → walked_children visit_attachments (spelled place attachments len) [] bytes ≡ Ok files → visit_segment nothing_seen (spelled place attachments len) bytes ≡ Ok (attachments_seen files)
+unfolding visit_segment attachments_visited thence thence_of gives
 visit_segment-attachments bytes place len files read = rw read refl
 
 -- an outline is the header, the Segment and what is read of it
-pub outline_of-read : (bytes : List ℕ) (place : ℕ) (segment : Element) (files : List FileAt) → header_of bytes ≡ Ok place → segment_in (length bytes) place bytes ≡ Ok segment → segment.end ≡ length bytes → walked_children visit_segment segment None bytes ≡ Ok (Some files)
+pub outline_of-read : (bytes : List ℕ) (place : ℕ) (segment : Element) (files : List FileAt) → header_of (length bytes) bytes ≡ Ok place → segment_in (length bytes) place bytes ≡ Ok segment → segment.end ≡ length bytes → walked_children visit_segment segment nothing_seen bytes ≡ Ok (attachments_seen files)
     → outline_of bytes ≡ Ok files
-unfolding outline_of segment_read and_then
+unfolding outline_of outline_in segment_read looks thence thence_of gives
 outline_of-read bytes place segment files header at ends read = rw (header, at, read, same_id segment.end (length bytes) ends) refl
 
-pub header_of-read : (bytes : List ℕ) (first : Element) → element_in (length bytes) 0 bytes ≡ Ok first → first.id ≡ ebml_header → walked_children visit_header first false bytes ≡ Ok true → header_of bytes ≡ Ok first.end
-unfolding header_of header_read and_then
+pub header_of-read : (bytes : List ℕ) (first : Element) → element_in (length bytes) 0 bytes ≡ Ok first → first.id ≡ ebml_header → walked_children visit_header first no_doc_type bytes ≡ Ok (record { doc_type = true }) → header_of (length bytes) bytes ≡ Ok first.end
+unfolding header_of header_read thence thence_of gives
 header_of-read bytes first at is read = rw (at, same_id first.id ebml_header is, read) refl

@@ -1,55 +1,37 @@
--- Laws of the outline as a whole.
-use Rattle.std.proofs.Common.{◌≡◌, ℕ, List, length, Some, None, All, IfOk, IfErr, Result, Ok, Err, refl}
-use Rattle.cook_restore.specs.declared.matroska_read.error.OutlineError.{OutlineError}
-use Rattle.cook_restore.specs.declared.matroska_read.parts.Element.{Element}
-use Rattle.cook_restore.specs.declared.matroska_read.files.FileAt.{FileAt}
+-- Laws of the outline, in the words of the shelf.
+use Rattle.std.proofs.Common.{◌≡◌, ℕ, List, length, Some, Ok, Err, sym, ap, ◌∙◌, subst}
 use Rattle.shelf_core.specs.Told.{Told, IsTold, content}
-use Rattle.cook_restore.specs.Inside.{EndsBy, AllEndBy}
-use Rattle.cook_restore.specs.Walk.{and_then, segment_in}
-use Rattle.cook_restore.specs.Outline.{header_of, segment_read, outline_of}
-use Rattle.cook_restore.specs.Seen.{Seen, seen, Sees, Gives, Agree, Refuses, IsRefusal}
-use Rattle.cook_restore.proofs.SeenLaws.{Refuses-so, Agree-gives, Agree-refuses, told-sees, told-refuses, Holds-nothing}
+use Rattle.shelf_reader.specs.declared.error.ReadError.{ReadError}
+use Rattle.shelf_reader.specs.declared.error.ReadError.TheVariants.{Fault, Failed, Short, NoMemory}
+use Rattle.shelf_reader.specs.Readings.{looks, Answers}
+use Rattle.shelf_reader.specs.Seen.{Seen, seen, Sees, IsUnseen}
+use Rattle.shelf_reader.proofs.SeenLaws.{content_seen}
+use Rattle.cook_restore.specs.Answered.{outline_error, IsRefusal}
+use Rattle.cook_restore.specs.Outline.{outline_in, outline_of}
+use Rattle.cook_restore.specs.declared.matroska_read.error.OutlineFault.{OutlineFault}
+use Rattle.cook_restore.specs.declared.matroska_read.error.OutlineFault.TheVariants.{Shape}
+use Rattle.cook_restore.specs.declared.matroska_read.files.FileAt.{FileAt}
 
-behind_header : (known : Seen) (len place : ℕ) → Sees known length len → Gives known header_of place → Agree known outline_of (λ bytes. and_then (segment_in len place bytes) (λ element. segment_read element bytes))
-unfolding Gives Sees Agree outline_of and_then
-behind_header None len place count read = tt
-behind_header (Some bytes) len place count read = rw (read, count) refl
+-- what is known of a file that is told, where it is as long as was said
+told-known : (told : Told) (name : List ℕ) (len : ℕ) (known : Seen) → known ≡ seen told name len → IsTold told → len ≡ length (content told name) → known ≡ Some (content told name)
+told-known told name len known same is_told long = same ∙ content_seen told name len is_told long
 
-behind_segment : (known : Seen) (len place : ℕ) (element : Element) → Sees known length len → Gives known header_of place → Gives known (segment_in len place) element → Agree known outline_of (segment_read element)
-unfolding Gives Sees Agree outline_of and_then
-behind_segment None len place element count read found = tt
-behind_segment (Some bytes) len place element count read found = rw (read, count, found) refl
+outlined : (known : Seen) (bytes : List ℕ) (len : ℕ) (files : List FileAt) → known ≡ Some bytes → len ≡ length bytes → Answers {F = OutlineFault} known (outline_in len) (Ok files) → outline_of bytes ≡ Ok files
+unfolding outline_of looks Answers Sees
+outlined known bytes len files is long answer = let told : outline_in len bytes ≡ Ok files = subst (λ (k : Seen). Answers {F = OutlineFault} k (outline_in len) (Ok files)) is answer in ap (λ (n : ℕ). outline_in n bytes) (sym long) ∙ told
 
-pub outline-header : (known : Seen) (error : OutlineError) → Refuses known header_of error → Refuses known outline_of error
-unfolding outline_of and_then
-outline-header known error refuses = Refuses-so known header_of outline_of error refuses (λ bytes place e. rw e refl)
+pub outline-known : (told : Told) (name : List ℕ) (len said : ℕ) (known : Seen) (files : List FileAt) → known ≡ seen told name len → said ≡ len → Answers {F = OutlineFault} known (outline_in said) (Ok files) → IsTold told → len ≡ length (content told name) → outline_of (content told name) ≡ Ok files
+outline-known told name len said known files same is answer is_told long = outlined known (content told name) said files (told-known told name len known same is_told long) (is ∙ long) answer
 
-pub outline-segment : (known : Seen) (len place : ℕ) (error : OutlineError) → Sees known length len → Gives known header_of place → Refuses known (segment_in len place) error → Refuses known outline_of error
-unfolding and_then
-outline-segment known len place error count read refuses =
-    Agree-refuses known outline_of (λ bytes. and_then (segment_in len place bytes) (λ element. segment_read element bytes)) error (behind_header known len place count read)
-    (Refuses-so known (segment_in len place) _ error refuses (λ bytes fault e. rw e refl))
+refused : (known : Seen) (bytes : List ℕ) (len : ℕ) (error : ReadError OutlineFault) → known ≡ Some bytes → len ≡ length bytes → Answers known (outline_in len) (Err error) → IsRefusal (outline_of bytes) (outline_error error)
+unfolding outline_of looks Answers Sees IsUnseen
+refused known bytes len (Fault (Shape place)) is long answer = let told : outline_in len bytes ≡ Err (Shape place) = subst (λ (k : Seen). Answers k (outline_in len) (Err (Fault (Shape place)))) is answer in ap (λ (n : ℕ). outline_in n bytes) (sym long) ∙ told
+refused known bytes len (Short now) is long answer = no-end known bytes is answer
+  where
+    no-end : (k : Seen) (b : List ℕ) → k ≡ Some b → IsUnseen k → ⊥
+    no-end k b e unseen = subst IsUnseen e unseen
+refused known bytes len Failed is long answer = tt
+refused known bytes len NoMemory is long answer = tt
 
-pub outline-known : (known : Seen) (len place : ℕ) (element : Element) (files : List FileAt) → Sees known length len → Gives known header_of place → Gives known (segment_in len place) element → Gives known (segment_read element) files → Gives known outline_of files
-outline-known known len place element files count read found whole = Agree-gives known outline_of (segment_read element) files (behind_segment known len place element count read found) whole
-
-pub outline-refused : (known : Seen) (len place : ℕ) (element : Element) (error : OutlineError) → Sees known length len → Gives known header_of place → Gives known (segment_in len place) element → Refuses known (segment_read element) error → Refuses known outline_of error
-outline-refused known len place element error count read found whole = Agree-refuses known outline_of (segment_read element) error (behind_segment known len place element count read found) whole
-
--- ---- in the words of the shelf
-
-pub told-known : {A : Type 0} (told : Told) (name : List ℕ) (len : ℕ) (f : List ℕ → Result A ℕ) (r : Result A OutlineError) → IfOk r (Gives (seen told name len) f) → IfOk r (λ v. IsTold told → len ≡ length (content told name) → f (content told name) ≡ Ok v)
-unfolding Gives
-told-known told name len f (Ok v) gives = λ known is. told-sees told name len f (Ok v) gives known is
-told-known told name len f (Err error) gives = tt
-
-pub told-refused : {A : Type 0} (told : Told) (name : List ℕ) (len : ℕ) (f : List ℕ → Result A ℕ) (r : Result A OutlineError) → IfErr r (Refuses (seen told name len) f) → IfErr r (λ error. IsTold told → len ≡ length (content told name) → IsRefusal (f (content told name)) error)
-told-refused told name len f (Ok v) refuses = tt
-told-refused told name len f (Err error) refuses = λ known is. told-refuses told name len f error refuses known is
-
-pub told-within : (len : ℕ) (r : Result (List FileAt) OutlineError) → IfOk r (AllEndBy len) → IfOk r (All (EndsBy len))
-unfolding AllEndBy
-told-within len (Ok files) ends = ends
-told-within len (Err error) ends = tt
-
-pub ruleset outline_laws = (Holds-nothing, outline-header, outline-segment, outline-known, outline-refused)
+pub outline-refused : (told : Told) (name : List ℕ) (len said : ℕ) (known : Seen) (error : ReadError OutlineFault) → known ≡ seen told name len → said ≡ len → Answers known (outline_in said) (Err error) → IsTold told → len ≡ length (content told name) → IsRefusal (outline_of (content told name)) (outline_error error)
+outline-refused told name len said known error same is answer is_told long = refused known (content told name) said error (told-known told name len known same is_told long) (is ∙ long) answer

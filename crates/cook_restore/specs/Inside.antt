@@ -3,6 +3,7 @@ use Rattle.std.specs.Prelude.{◌≡◌, ℕ, ◌+◌, ◌<◌, ◌≤◌, List,
 use Rattle.cook_restore.specs.declared.matroska_read.parts.Element.{Element}
 use Rattle.cook_restore.specs.declared.matroska_read.parts.Span.{Span}
 use Rattle.cook_restore.specs.declared.matroska_read.parts.Fields.{Fields}
+use Rattle.cook_restore.specs.declared.matroska_read.parts.SegmentSeen.{SegmentSeen}
 use Rattle.cook_restore.specs.declared.matroska_read.files.FileAt.{FileAt}
 
 -- an element has a head, and ends where its parent does or before
@@ -27,3 +28,12 @@ EndsBy end file = file.at + file.len ≤ end
 -- each of the files does
 unfoldable pub AllEndBy : ℕ → List FileAt → Type 0
 AllEndBy end files = All (EndsBy end) files
+
+-- an element keeps inside a parent that ends at a place, whose own place is not asked
+pub record KeepsInside (end : ℕ) (element : Element) : Type 0 where
+  pub content : element.start ≤ element.end
+  pub within : element.end ≤ end
+
+-- the files that were seen of a Segment do
+abbrev pub SegmentEndsBy : ℕ → SegmentSeen → Type 0
+SegmentEndsBy end seen = IfSome seen.files (AllEndBy end)

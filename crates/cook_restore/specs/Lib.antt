@@ -1,4 +1,5 @@
 -- What a package holds, and what a reading of it answers.
+pub mod Answered
 pub mod Contents
 pub mod Giving
 pub mod Identifiers
@@ -6,5 +7,5 @@ pub mod Inside
 pub mod Meaning
 pub mod Outline
 pub mod Restoring
-pub mod Seen
 pub mod Walk
+pub mod WalkGoesOn

@@ -8,6 +8,8 @@ use Rattle.reversal.specs.declared.record.FileRecord.{FileRecord}
 use Rattle.reversal.specs.declared.error.SideError.{SideError}
 use Rattle.reversal.specs.declared.error.SideError.TheVariants as side
 use Rattle.cook_restore.specs.Outline.{outline_of}
+use Rattle.cook_restore.specs.declared.matroska_read.error.OutlineFault.{OutlineFault}
+use Rattle.cook_restore.specs.declared.matroska_read.error.OutlineFault.TheVariants as outlined
 use Rattle.cook_restore.specs.declared.matroska_read.files.FileAt.{FileAt}
 use Rattle.cook_restore.specs.declared.error.FileWhy.{FileWhy}
 use Rattle.cook_restore.specs.declared.error.FileWhy.TheVariants as file
@@ -84,9 +86,9 @@ unfoldable pub side_meant : List FileAt → List ℕ → Option FileAt → Meani
 side_meant attached bytes None = nothing_for faults.NoSide
 side_meant attached bytes (Some side) = records_meant attached bytes (side_read (bytes_at side bytes))
 
-unfoldable pub outline_meant : List ℕ → Result (List FileAt) ℕ → Meaning
+unfoldable pub outline_meant : List ℕ → Result (List FileAt) OutlineFault → Meaning
 outline_meant bytes (Ok attached) = side_meant attached bytes (side_of attached)
-outline_meant bytes (Err place) = nothing_for (faults.Shape place)
+outline_meant bytes (Err (outlined.Shape place)) = nothing_for (faults.Shape place)
 
 -- the meaning of a package
 unfoldable pub meaning_of : List ℕ → Meaning

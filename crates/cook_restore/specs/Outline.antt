@@ -1,25 +1,27 @@
 -- The outline of any list of bytes, read as a Matroska file of attachments (RFC 8794 and RFC 9559): the files that are
--- attached, or the place of the first fault. A parent's children are walked in order of place, and what a parent holds or
--- lacks is tested after its children. An identifier has its meaning in its own parent alone; elsewhere, and where it isn't
--- named here, its element is passed over by its size.
-use Rattle.std.specs.Prelude.{ℕ, ◌-◌, nat_le, nat_eq, ◌==◌, ◌&&◌, Bool, true, false, if◌then◌else◌, List, [], ◌∷◌, ◌++◌, length, codes, Option, Some, None, unwrap_or, Result, Ok, Err}
-use Rattle.std.specs.Cmp.Lexicographic.{pointwise}
+-- attached, or the first fault. A parent's children are walked in order of place, and what a parent holds or lacks is
+-- tested after its children. An identifier has its meaning in its own parent alone; elsewhere, and where it isn't named
+-- here, its element is passed over by its size.
+use Rattle.std.specs.Prelude.{ℕ, ◌-◌, nat_le, ◌==◌, ◌&&◌, Bool, true, false, if◌then◌else◌, List, [], ◌∷◌, ◌++◌, length, codes, Option, Some, None, unwrap_or}
 use Rattle.byteorder.specs.Endian.{big_number}
+use Rattle.shelf_reader.specs.Readings.{gives, fails, looks, thence}
+use Rattle.shelf_reader.specs.Seen.{between, is_text_between}
+use Rattle.shelf_reader.specs.Walk.{Visit}
 use Rattle.cook_restore.specs.Identifiers.{ebml_header, ebml_read_version, ebml_max_id_length, ebml_max_size_length, doc_type, doc_type_read_version, cluster, tracks, attachments, attached_file, file_name, file_media_type, file_data}
-use Rattle.cook_restore.specs.Walk.{between, content_of, and_then, element_in, segment_in, Visit, walked_children}
+use Rattle.cook_restore.specs.Walk.{Read, content_of, element_in, segment_in, walked_children}
+use Rattle.cook_restore.specs.declared.matroska_read.error.OutlineFault.{OutlineFault}
+use Rattle.cook_restore.specs.declared.matroska_read.error.OutlineFault.TheVariants.{Shape}
 use Rattle.cook_restore.specs.declared.matroska_read.parts.Element.{Element}
 use Rattle.cook_restore.specs.declared.matroska_read.parts.Bounds.{Bounds}
 use Rattle.cook_restore.specs.declared.matroska_read.parts.Span.{Span}
 use Rattle.cook_restore.specs.declared.matroska_read.parts.Fields.{Fields}
+use Rattle.cook_restore.specs.declared.matroska_read.parts.HeaderSeen.{HeaderSeen}
+use Rattle.cook_restore.specs.declared.matroska_read.parts.SegmentSeen.{SegmentSeen}
 use Rattle.cook_restore.specs.declared.matroska_read.files.FileAt.{FileAt}
 
--- two texts are the same, byte for byte
-abbrev pub is_same_text : List ℕ → List ℕ → Bool
-is_same_text = pointwise nat_eq
-
--- a text stands between two places
-unfoldable pub is_text_between : List ℕ → ℕ → ℕ → List ℕ → Bool
-is_text_between text from to bytes = is_same_text (between from to bytes) text
+-- what is known of a parent's children, with one more
+abbrev pub Visits : Type 0 → Type 0
+Visits State = Visit State Element OutlineFault
 
 -- ---- the EBML header
 
@@ -49,25 +51,27 @@ bounds_of id =
 unfoldable pub is_number_understood : Bounds → Element → List ℕ → Bool
 is_number_understood bounds child bytes = is_understood bounds (content_of child bytes)
 
-unfoldable pub number_visited : Option Bounds → Visit Bool
-number_visited None seen child bytes = Ok seen
-number_visited (Some bounds) seen child bytes = if is_number_understood bounds child bytes then Ok seen else Err child.place
+unfoldable pub number_visited : Option Bounds → Visits HeaderSeen
+number_visited None seen child = gives seen
+number_visited (Some bounds) seen child = looks (is_number_understood bounds child) (λ understood. if understood then gives seen else fails (Shape child.place))
 
 -- a child of the header, and whether a DocType was seen
-unfoldable pub visit_header : Visit Bool
-visit_header seen child bytes =
-    if child.id == doc_type then (if is_text_between (codes "matroska") child.start child.end bytes then Ok true else Err child.place)
-    else number_visited (bounds_of child.id) seen child bytes
+unfoldable pub visit_header : Visits HeaderSeen
+visit_header seen child =
+    if child.id == doc_type then looks (is_text_between (codes "matroska") child.start child.end) (λ same. if same then gives (record { doc_type = true }) else fails (Shape child.place))
+    else number_visited (bounds_of child.id) seen child
+
+-- no DocType was seen
+abbrev pub no_doc_type : HeaderSeen
+no_doc_type = record { doc_type = false }
 
 -- the place behind a header: it has a DocType
-unfoldable pub header_read : Element → List ℕ → Result ℕ ℕ
-header_read header bytes =
-    and_then (walked_children visit_header header false bytes) (λ seen. if seen then Ok header.end else Err header.place)
+unfoldable pub header_read : Element → Read ℕ
+header_read header = thence (walked_children visit_header header no_doc_type) (λ seen. if seen.doc_type then gives header.end else fails (Shape header.place))
 
--- a file begins with an EBML header
-unfoldable pub header_of : List ℕ → Result ℕ ℕ
-header_of bytes =
-    and_then (element_in (length bytes) 0 bytes) (λ first. if first.id == ebml_header then header_read first bytes else Err 0)
+-- a file of so many bytes begins with an EBML header
+unfoldable pub header_of : ℕ → Read ℕ
+header_of len = thence (element_in len 0) (λ first. if first.id == ebml_header then header_read first else fails (Shape 0))
 
 -- ---- the attached files
 
@@ -94,50 +98,57 @@ with_field fields child =
     else (if child.id == file_data then record { name = fields.name; media_type = fields.media_type; content = first_of fields.content child }
     else fields))
 
-unfoldable pub visit_field : Visit Fields
-visit_field fields child bytes = Ok (with_field fields child)
+unfoldable pub visit_field : Visits Fields
+visit_field fields child = gives (with_field fields child)
 
 -- the file of a name, a media type and a content
-unfoldable pub file_at : Span → Span → Span → List ℕ → FileAt
-file_at name media content bytes =
-    record { name = between name.start name.end bytes; side = is_text_between side_media_type media.start media.end bytes; at = content.start; len = content.end - content.start }
+unfoldable pub file_at : Span → Span → Span → Read FileAt
+file_at name media content =
+    looks (between name.start name.end) (λ named. looks (is_text_between side_media_type media.start media.end) (λ side. gives (record { name = named; side = side; at = content.start; len = content.end - content.start })))
 
 -- an AttachedFile at a place has a name, a media type and a content
-unfoldable pub file_of : ℕ → Option Span → Option Span → Option Span → List ℕ → Result FileAt ℕ
-file_of place (Some name) (Some media) (Some content) bytes = Ok (file_at name media content bytes)
-file_of place name media content bytes = Err place
+unfoldable pub file_of : ℕ → Option Span → Option Span → Option Span → Read FileAt
+file_of place (Some name) (Some media) (Some content) = file_at name media content
+file_of place name media content = fails (Shape place)
 
-unfoldable pub file_read : Element → List ℕ → Result FileAt ℕ
-file_read element bytes =
-    and_then (walked_children visit_field element no_fields bytes) (λ fields. file_of element.place fields.name fields.media_type fields.content bytes)
+unfoldable pub file_read : Element → Read FileAt
+file_read element = thence (walked_children visit_field element no_fields) (λ fields. file_of element.place fields.name fields.media_type fields.content)
 
 -- a child of Attachments (section 5.1.6), and the files so far
-unfoldable pub visit_attachments : Visit (List FileAt)
-visit_attachments files child bytes =
-    if child.id == attached_file then and_then (file_read child bytes) (λ file. Ok (files ++ file ∷ [])) else Ok files
+unfoldable pub visit_attachments : Visits (List FileAt)
+visit_attachments files child = if child.id == attached_file then thence (file_read child) (λ file. gives (files ++ file ∷ [])) else gives files
 
 -- ---- the Segment
 
-unfoldable pub attachments_visited : Visit (Option (List FileAt))
-attachments_visited (Some files) child bytes = Err child.place
-attachments_visited None child bytes = and_then (walked_children visit_attachments child [] bytes) (λ files. Ok (Some files))
+abbrev pub attachments_seen : List FileAt → SegmentSeen
+attachments_seen files = record { files = Some files }
+
+unfoldable pub attachments_visited : Option (List FileAt) → Element → Read SegmentSeen
+attachments_visited (Some files) child = fails (Shape child.place)
+attachments_visited None child = thence (walked_children visit_attachments child []) (λ files. gives (attachments_seen files))
 
 -- A child of the Segment (section 5.1), and the files of its Attachments where those were seen: it has Attachments at most
 -- once. Tracks and Clusters are not read yet, so they are faults.
-unfoldable pub visit_segment : Visit (Option (List FileAt))
-visit_segment files child bytes =
-    if child.id == tracks then Err child.place
-    else (if child.id == cluster then Err child.place
-    else (if child.id == attachments then attachments_visited files child bytes
-    else Ok files))
+unfoldable pub visit_segment : Visits SegmentSeen
+visit_segment seen child =
+    if child.id == tracks then fails (Shape child.place)
+    else (if child.id == cluster then fails (Shape child.place)
+    else (if child.id == attachments then attachments_visited seen.files child
+    else gives seen))
 
--- the files of a Segment, behind which nothing follows
-unfoldable pub segment_read : Element → List ℕ → Result (List FileAt) ℕ
-segment_read element bytes =
-    and_then (walked_children visit_segment element None bytes) (λ files. if element.end == length bytes then Ok (unwrap_or files []) else Err element.end)
+-- nothing of a Segment was seen
+abbrev pub nothing_seen : SegmentSeen
+nothing_seen = record { files = None }
 
--- An EBML header and then a Segment (RFC 9559, section 4.5): the files that are attached, in order of place, or the place of
--- the first fault.
-unfoldable pub outline_of : List ℕ → Result (List FileAt) ℕ
-outline_of bytes =
-    and_then (header_of bytes) (λ place. and_then (segment_in (length bytes) place bytes) (λ element. segment_read element bytes))
+-- the files of a Segment of a file of so many bytes, behind which nothing follows
+unfoldable pub segment_read : ℕ → Element → Read (List FileAt)
+segment_read len element =
+    thence (walked_children visit_segment element nothing_seen) (λ seen. if element.end == len then gives (unwrap_or seen.files []) else fails (Shape element.end))
+
+-- An EBML header and then a Segment (RFC 9559, section 4.5), in a file of so many bytes.
+unfoldable pub outline_in : ℕ → Read (List FileAt)
+outline_in len = thence (header_of len) (λ place. thence (segment_in len place) (segment_read len))
+
+-- The files that are attached, in order of place, or the first fault.
+unfoldable pub outline_of : Read (List FileAt)
+outline_of = looks length outline_in

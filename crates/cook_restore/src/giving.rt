@@ -1,10 +1,10 @@
 // A file is given back: its content is checked whole, then written in the target, and sealed.
 ghost use Rattle.std.specs.Prelude.{◌≡◌, ◌+◌, ◌<◌, ◌≤◌, ◌^◌, length, Some, IfOk, IfErr, OnOk, OnErr, IfSome};
 ghost use Rattle.shelf_core.specs.Causes.{HasCause};
+ghost use Rattle.shelf_core.specs.Reads.{OnlyReads};
 ghost use Rattle.shelf_core.specs.Told.{HasFile, IsFree, content, with_file};
 ghost use Rattle.cook_restore.specs.Contents.{PlaceEndsBy};
 ghost use Rattle.cook_restore.specs.Giving.{IsChecked, NotChecked, NotWritten, IsContentGiven, NotGiven, bytes_told, target_of};
-ghost use Rattle.cook_restore.specs.Seen.{IsKept};
 
 use crate::FileWhy;
 use crate::contents::Content;
@@ -50,7 +50,7 @@ fn checked_content<S: Shelf>(
     ensures same { IfOk result (λ found. content ≡ Some found) }
     ensures checked { IfOk result (IsChecked (S.files shelf.old) pkg.entry.name.now said.now) }
     ensures stopped { IfErr result (NotChecked (S.files shelf.old) pkg.entry.name.now pkg.entry.len said.now content (S.faults shelf.old) (S.faults shelf.new)) }
-    ensures kept { IsKept (S.files shelf.old) (S.files shelf.new) (S.unsealed shelf.old) (S.unsealed shelf.new) (S.faults shelf.old) (S.faults shelf.new) (S.starved shelf.old) (S.starved shelf.new) }
+    ensures kept { OnlyReads S.Shelf shelf.old shelf.new }
 {
     let Some(content) = content else {
         return Err(Stop::File(FileWhy::Missing));

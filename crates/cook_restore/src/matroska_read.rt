@@ -11,8 +11,7 @@ mod segment;
 #[cfg(test)]
 mod tests;
 mod top;
-mod window;
 
-pub use error::OutlineError;
+pub use error::{OutlineError, OutlineFault};
 pub use files::{FileAt, Outline};
 pub use top::outline;

@@ -1,12 +1,12 @@
 // A package is opened: its length, its outline, its side data, and where the contents of its files stand.
 ghost use Rattle.std.specs.Prelude.{◌≡◌, ◌+◌, ◌<◌, ◌≤◌, ◌^◌, length, IfOk, IfErr, OnOk, Ok as Good};
 ghost use Rattle.std.specs.Option.{option_map};
+ghost use Rattle.shelf_core.specs.Reads.{OnlyReads};
 ghost use Rattle.shelf_core.specs.Told.{IsTold, HasFile, content};
 ghost use Rattle.cook_restore.specs.Inside.{AllEndBy};
 ghost use Rattle.cook_restore.specs.Meaning.{bytes_at};
 ghost use Rattle.cook_restore.specs.Outline.{outline_of};
 ghost use Rattle.cook_restore.specs.Restoring.{AreSideRecords, IsNotOpened, IsOpened, NotOutlined, NotRead, NotRecorded, IsMissing};
-ghost use Rattle.cook_restore.specs.Seen.{IsKept};
 
 use crate::contents::{contents_of, side_number};
 use crate::{FileAt, Outline, OutlineError, PackageWhy, RestoreError, Restorer, outline};
@@ -74,7 +74,7 @@ fn package_len<S: Shelf>(alloc: Global, shelf: &mut S, pkg: &str) -> Result<u64,
     ensures there { OnOk result (HasFile (S.files shelf.old) pkg.now) }
     ensures len { IfOk result (λ len. IsTold (S.files shelf.old) → len ≡ length (content (S.files shelf.old) pkg.now)) }
     ensures stopped { IfErr result (IsNotOpened (S.files shelf.old) pkg.now (S.faults shelf.old) (S.faults shelf.new)) }
-    ensures kept { IsKept (S.files shelf.old) (S.files shelf.new) (S.unsealed shelf.old) (S.unsealed shelf.new) (S.faults shelf.old) (S.faults shelf.new) (S.starved shelf.old) (S.starved shelf.new) }
+    ensures kept { OnlyReads S.Shelf shelf.old shelf.new }
 {
     match shelf.len(pkg)? {
         Some(len) => Ok(len),
@@ -94,7 +94,7 @@ fn package_outline<S: Shelf>(
     ensures outline { IfOk result (λ files. IsTold (S.files shelf.old) → outline_of (content (S.files shelf.old) pkg.now) ≡ Good files) }
     ensures within { IfOk result (AllEndBy len) }
     ensures stopped { IfErr result (IsNotOpened (S.files shelf.old) pkg.now (S.faults shelf.old) (S.faults shelf.new)) }
-    ensures kept { IsKept (S.files shelf.old) (S.files shelf.new) (S.unsealed shelf.old) (S.unsealed shelf.new) (S.faults shelf.old) (S.faults shelf.new) (S.starved shelf.old) (S.starved shelf.new) }
+    ensures kept { OnlyReads S.Shelf shelf.old shelf.new }
 {
     match outline(alloc, shelf, pkg, len) {
         Ok(outline) => Ok(outline),
@@ -115,7 +115,7 @@ fn attached_bytes<S: Shelf>(
     requires ends { file.now.at + file.now.len ≤ len }
     ensures bytes { IfOk result (λ bytes. IsTold (S.files shelf.old) → bytes.items ≡ bytes_at file.now (content (S.files shelf.old) pkg.now)) }
     ensures stopped { IfErr result (IsNotOpened (S.files shelf.old) pkg.now (S.faults shelf.old) (S.faults shelf.new)) }
-    ensures kept { IsKept (S.files shelf.old) (S.files shelf.new) (S.unsealed shelf.old) (S.unsealed shelf.new) (S.faults shelf.old) (S.faults shelf.new) (S.starved shelf.old) (S.starved shelf.new) }
+    ensures kept { OnlyReads S.Shelf shelf.old shelf.new }
 {
     let mut bytes = Vec::new(alloc);
     bytes.resize(file.len as usize, 0)?;
@@ -140,7 +140,7 @@ fn package_records<S: Shelf>(
     ensures records { IfOk result (λ records. IsTold (S.files shelf.old) → AreSideRecords files.now (content (S.files shelf.old) pkg.now) records.items) }
     ensures few { IfOk result (λ records. length records.items < 2 ^ 32) }
     ensures stopped { IfErr result (IsNotOpened (S.files shelf.old) pkg.now (S.faults shelf.old) (S.faults shelf.new)) }
-    ensures kept { IsKept (S.files shelf.old) (S.files shelf.new) (S.unsealed shelf.old) (S.unsealed shelf.new) (S.faults shelf.old) (S.faults shelf.new) (S.starved shelf.old) (S.starved shelf.new) }
+    ensures kept { OnlyReads S.Shelf shelf.old shelf.new }
 {
     let Some(number) = side_number(files) else {
         return Err(RestoreError::Package(PackageWhy::NoSide));
@@ -186,7 +186,7 @@ pub fn open_package<S: Shelf>(
     requires workers { (1 ≤ workers) × (workers ≤ 64) }
     ensures opened { IfOk result (IsOpened (S.files shelf.old) pkg.now (option_map (λ name. name.now) target.entry)) }
     ensures stopped { IfErr result (IsNotOpened (S.files shelf.old) pkg.now (S.faults shelf.old) (S.faults shelf.new)) }
-    ensures kept { IsKept (S.files shelf.old) (S.files shelf.new) (S.unsealed shelf.old) (S.unsealed shelf.new) (S.faults shelf.old) (S.faults shelf.new) (S.starved shelf.old) (S.starved shelf.new) }
+    ensures kept { OnlyReads S.Shelf shelf.old shelf.new }
 {
     let _ = workers;
     let len = package_len(alloc, shelf, pkg)?;

@@ -1,5 +1,5 @@
 -- An attachment of a package, as a reader sees it.
-use Rattle.std.proofs.Common.{◌≡◌, ℕ, ◌+◌, ◌^◌, ◌≤◌, Bool, true, false, List, ◌++◌, length, Ok, refl, ap, ◌∙◌, arith, length-append}
+use Rattle.std.proofs.Common.{◌≡◌, ℕ, ◌+◌, ◌-◌, ◌^◌, ◌≤◌, Bool, true, false, List, ◌++◌, length, Ok, refl, ap, ◌∙◌, arith, length-append}
 use Rattle.ebml_core.specs.Element.{head_of, element, uint_element, uint_bytes}
 use Rattle.ebml_core.proofs.Heads.{length-element, length-head_of-le, length-uint_bytes, length-uint_element-le, byte_count-le}
 use Rattle.cook_pack.specs.Pieces.{media_type, attached_fields, attached_file}
@@ -8,10 +8,13 @@ use Rattle.cook_restore.specs.declared.matroska_read.parts.Element.{Element}
 use Rattle.cook_restore.specs.declared.matroska_read.parts.Fields.{Fields}
 use Rattle.cook_restore.specs.declared.matroska_read.files.FileAt.{FileAt}
 use Rattle.cook_restore.specs.Meaning.{bytes_at}
-use Rattle.cook_restore.specs.Walk.{and_then, walked}
-use Rattle.cook_restore.specs.Outline.{is_same_text, is_text_between, side_media_type, span_of, no_fields, with_field, visit_field, file_at, file_of, file_read}
-use Rattle.cook_restore.proofs.WalkLaws.{walked-end}
-use Rattle.cook_restore.proofs.SpelledWalk.{Stands, IsSpelled, spelled, behind, stands-first, content-stands, content_of-spelled, walked-spelled}
+use Rattle.shelf_reader.specs.Readings.{gives, looks, thence_of, thence}
+use Rattle.shelf_reader.specs.Seen.{between, is_same_text, is_text_between}
+use Rattle.shelf_reader.specs.Walk.{walked}
+use Rattle.cook_restore.specs.declared.matroska_read.parts.Span.{Span}
+use Rattle.cook_restore.specs.Walk.{ebml}
+use Rattle.cook_restore.specs.Outline.{side_media_type, span_of, no_fields, with_field, visit_field, file_at, file_of, file_read}
+use Rattle.cook_restore.proofs.SpelledWalk.{walked-end, Stands, IsSpelled, spelled, behind, stands-first, content-stands, content_of-spelled, walked-spelled}
 use Rattle.cook_top.specs.RoundTrip.{IsAttached}
 
 -- ---- lengths
@@ -83,8 +86,8 @@ fields_seen start name media number content =
     let fourth = third + length (element 0x46AE number) in
     with_field (with_field (with_field (with_field no_fields (spelled start 0x466E (length name))) (spelled second 0x4660 (length media))) (spelled third 0x46AE (length number))) (spelled fourth 0x465C (length content))
 
-walked_fields : (bytes : List ℕ) (end start : ℕ) (name media number content rest : List ℕ) → AreFields bytes end start name media number content rest → walked visit_field end no_fields start bytes ≡ Ok (fields_seen start name media number content)
-unfolding visit_field fields_seen
+walked_fields : (bytes : List ℕ) (end start : ℕ) (name media number content rest : List ℕ) → AreFields bytes end start name media number content rest → walked ebml visit_field end no_fields start bytes ≡ Ok (fields_seen start name media number content)
+unfolding visit_field fields_seen gives
 walked_fields bytes end start name media number content rest are =
     let second = start + length (element 0x466E name) in
     let third = second + length (element 0x4660 media) in
@@ -107,6 +110,10 @@ pub record IsRead (bytes : List ℕ) (element : Element) (name : List ℕ) (side
   pub read : file_read element bytes ≡ Ok file
   pub is : IsAttached bytes name side content file
 
+-- what is read of a name, a media type and a content
+abbrev file_seen : Span → Span → Span → List ℕ → FileAt
+file_seen name media content bytes = record { name = between name.start name.end bytes; side = is_text_between side_media_type media.start media.end bytes; at = content.start; len = content.end - content.start }
+
 media_tells : (side : Bool) → is_same_text (media_type side) side_media_type ≡ side
 media_tells true = refl
 media_tells false = refl
@@ -114,7 +121,7 @@ media_tells false = refl
 file_by_fields : (bytes : List ℕ) (place len : ℕ) (name : List ℕ) (side : Bool) (number content rest : List ℕ)
     → AreFields bytes (place + length (head_of 0x61A7 len) + len) (place + length (head_of 0x61A7 len)) name (media_type side) number content rest
     → IsRead bytes (spelled place 0x61A7 len) name side content
-unfolding file_read file_of file_at with_field and_then fields_seen is_text_between bytes_at
+unfolding file_read file_of file_at with_field looks gives thence thence_of fields_seen is_text_between bytes_at
 file_by_fields bytes place len name side number content rest are =
     let start = place + length (head_of 0x61A7 len) in
     let end = start + len in
@@ -122,7 +129,7 @@ file_by_fields bytes place len name side number content rest are =
     let fourth = second + length (element 0x4660 (media_type side)) + length (element 0x46AE number) in
     let content_at = fourth + length (head_of 0x465C (length content)) in
     record {
-      file = file_at (span_of (spelled start 0x466E (length name))) (span_of (spelled second 0x4660 (length (media_type side)))) (span_of (spelled fourth 0x465C (length content))) bytes;
+      file = file_seen (span_of (spelled start 0x466E (length name))) (span_of (spelled second 0x4660 (length (media_type side)))) (span_of (spelled fourth 0x465C (length content))) bytes;
       read = rw (walked_fields bytes end start name (media_type side) number content rest are) refl;
       is = record {
         named = content_of-spelled bytes end start 0x466E name _ are.first;

@@ -14,10 +14,10 @@ use Rattle.cook_pack.specs.Package.{attached_from, attachments_of, record_of}
 use Rattle.cook_pack.proofs.PlannedLaws.{short_name}
 use Rattle.cook_restore.specs.declared.matroska_read.parts.Element.{Element}
 use Rattle.cook_restore.specs.declared.matroska_read.files.FileAt.{FileAt}
-use Rattle.cook_restore.specs.Walk.{walked, walked_children}
+use Rattle.shelf_reader.specs.Walk.{walked}
+use Rattle.cook_restore.specs.Walk.{ebml, walked_children}
 use Rattle.cook_restore.specs.Outline.{visit_attachments}
-use Rattle.cook_restore.proofs.WalkLaws.{walked-end}
-use Rattle.cook_restore.proofs.SpelledWalk.{Stands, IsSpelled, spelled, stands-first, stands-second, content-stands, walked-file}
+use Rattle.cook_restore.proofs.SpelledWalk.{walked-end, Stands, IsSpelled, spelled, stands-first, stands-second, content-stands, walked-file}
 use Rattle.cook_top.specs.RoundTrip.{file_names, IsAttached, AreAttached}
 use Rattle.cook_top.proofs.ProfileLaws.{Keeps}
 use Rattle.cook_top.proofs.AttachmentLaws.{attached_content, length-attached_content-le, length-attached_file-le, file_read-attached}
@@ -75,22 +75,22 @@ length-side_data-le directory relative =
 
 record Seen (bytes : List ℕ) (end place behind : ℕ) (before : List FileAt) (directory : List File) : Type 0 where
   files : List FileAt
-  walk : walked visit_attachments end before place bytes ≡ walked visit_attachments end (before ++ files) behind bytes
+  walk : walked ebml visit_attachments end before place bytes ≡ walked ebml visit_attachments end (before ++ files) behind bytes
   are : AreAttached bytes directory files
 
 -- a file, and the others behind it
-file_then : (bytes : List ℕ) (end place next behind last : ℕ) (before : List FileAt) (file : FileAt) (others : List FileAt) → walked visit_attachments end before place bytes ≡ walked visit_attachments end (before ++ file ∷ []) next bytes
-    → walked visit_attachments end (before ++ file ∷ []) next bytes ≡ walked visit_attachments end ((before ++ file ∷ []) ++ others) behind bytes → behind ≡ last
-    → walked visit_attachments end before place bytes ≡ walked visit_attachments end (before ++ file ∷ others) last bytes
+file_then : (bytes : List ℕ) (end place next behind last : ℕ) (before : List FileAt) (file : FileAt) (others : List FileAt) → walked ebml visit_attachments end before place bytes ≡ walked ebml visit_attachments end (before ++ file ∷ []) next bytes
+    → walked ebml visit_attachments end (before ++ file ∷ []) next bytes ≡ walked ebml visit_attachments end ((before ++ file ∷ []) ++ others) behind bytes → behind ≡ last
+    → walked ebml visit_attachments end before place bytes ≡ walked ebml visit_attachments end (before ++ file ∷ others) last bytes
 file_then bytes end place next behind last before file others first later ends =
-    first ∙ later ∙ (λ i. walked visit_attachments end (append_assoc before (file ∷ []) others i) (ends i) bytes)
+    first ∙ later ∙ (λ i. walked ebml visit_attachments end (append_assoc before (file ∷ []) others i) (ends i) bytes)
 
 files_seen : (bytes : List ℕ) (end place uid : ℕ) (before : List FileAt) (directory : List File) (rest : List ℕ) → AllByRecursion IsSmall directory → Stands bytes place (attached_from uid directory) rest → place + length (attached_from uid directory) ≤ end
     → Seen bytes end place (place + length (attached_from uid directory)) before directory
 unfolding attached_from attached_file AreAttached
 files_seen bytes end place uid before [] rest small stands within =
     let none : place ≡ place + 0 = omega arith in
-    record { files = []; walk = (λ i. walked visit_attachments end (sym (append-nil before) i) (none i) bytes); are = tt }
+    record { files = []; walk = (λ i. walked ebml visit_attachments end (sym (append-nil before) i) (none i) bytes); are = tt }
 files_seen bytes end place uid before (file ∷ files) rest small stands within =
     let here = attached_content file.0 false uid file.1 in
     let piece = element 0x61A7 here in
@@ -152,7 +152,7 @@ length-attachments-le directory keeps =
 -- the side data, behind which the Attachments end
 record SideSeen (bytes : List ℕ) (end place : ℕ) (before : List FileAt) (directory : List File) : Type 0 where
   side : FileAt
-  walk : walked visit_attachments end before place bytes ≡ Ok (before ++ side ∷ [])
+  walk : walked ebml visit_attachments end before place bytes ≡ Ok (before ++ side ∷ [])
   is : IsAttached bytes (codes "cook.rev") true (side_data_of (map record_of directory)) side
 
 side_seen : (bytes : List ℕ) (end place : ℕ) (before : List FileAt) (directory : List File) (rest : List ℕ) → Keeps directory → Stands bytes place (element 0x61A7 (side_content directory)) rest → end ≡ place + length (element 0x61A7 (side_content directory))
@@ -172,9 +172,9 @@ side_seen bytes end place before directory rest keeps stands is_end =
     }
 
 -- the files, and then the side data
-side_then : (bytes : List ℕ) (end start next : ℕ) (parent : Element) (middle last : List FileAt) → parent.start ≡ start → parent.end ≡ end → walked visit_attachments end [] start bytes ≡ walked visit_attachments end middle next bytes
-    → walked visit_attachments end middle next bytes ≡ Ok last → walked_children visit_attachments parent [] bytes ≡ Ok last
-side_then bytes end start next parent middle last starts ends first later = (λ i. walked visit_attachments (ends i) [] (starts i) bytes) ∙ first ∙ later
+side_then : (bytes : List ℕ) (end start next : ℕ) (parent : Element) (middle last : List FileAt) → parent.start ≡ start → parent.end ≡ end → walked ebml visit_attachments end [] start bytes ≡ walked ebml visit_attachments end middle next bytes
+    → walked ebml visit_attachments end middle next bytes ≡ Ok last → walked_children visit_attachments parent [] bytes ≡ Ok last
+side_then bytes end start next parent middle last starts ends first later = (λ i. walked ebml visit_attachments (ends i) [] (starts i) bytes) ∙ first ∙ later
 
 content_seen : (bytes : List ℕ) (end start : ℕ) (directory : List File) (rest : List ℕ) (parent : Element) → parent.start ≡ start → parent.end ≡ end → Keeps directory
     → Stands bytes start (attached_from 1 directory ++ element 0x61A7 (side_content directory)) rest → end ≡ start + length (attached_from 1 directory ++ element 0x61A7 (side_content directory)) → AreSeen bytes parent directory
@@ -192,9 +192,9 @@ content_seen bytes end start directory rest parent starts ends keeps stands is_e
       is_side = side.is;
     }
 
-pub attachments_seen : (bytes : List ℕ) (end place : ℕ) (directory : List File) (rest : List ℕ) → Keeps directory → IsSpelled bytes end place 0x1941A469 (attachments_of directory) rest
+pub attachments_are_seen : (bytes : List ℕ) (end place : ℕ) (directory : List File) (rest : List ℕ) → Keeps directory → IsSpelled bytes end place 0x1941A469 (attachments_of directory) rest
     → AreSeen bytes (spelled place 0x1941A469 (length (attachments_of directory))) directory
-attachments_seen bytes end place directory rest keeps is =
+attachments_are_seen bytes end place directory rest keeps is =
     let seen = spelled place 0x1941A469 (length (attachments_of directory)) in
     let stands = content-stands bytes end place 0x1941A469 (attachments_of directory) rest is in
     let are = attachments-are directory in

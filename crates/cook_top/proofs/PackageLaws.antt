@@ -1,5 +1,5 @@
 -- A package, as a reader sees it.
-use Rattle.std.proofs.Common.{◌≡◌, ℕ, ◌+◌, ◌≤◌, List, [], ◌∷◌, ◌++◌, length, Option, None, Some, Ok, refl, sym, ap, ◌∙◌, arith, append_assoc, append-nil, length-append}
+use Rattle.std.proofs.Common.{◌≡◌, ℕ, ◌+◌, ◌≤◌, List, [], ◌∷◌, ◌++◌, length, Ok, refl, sym, ap, ◌∙◌, arith, append_assoc, append-nil, length-append}
 use Rattle.cook_bits.specs.Names.{File}
 use Rattle.ebml_core.specs.Element.{element, uint_bytes, byte_count, least_from}
 use Rattle.cook_pack.specs.Offence.{IsInProfile}
@@ -8,13 +8,15 @@ use Rattle.cook_pack.specs.Package.{attachments_of, package_bytes, package_of}
 use Rattle.cook_pack.proofs.PieceLaws.{short_info}
 use Rattle.cook_restore.specs.declared.matroska_read.parts.Element.{Element}
 use Rattle.cook_restore.specs.declared.matroska_read.files.FileAt.{FileAt}
-use Rattle.cook_restore.specs.Walk.{walked}
-use Rattle.cook_restore.specs.Outline.{visit_segment}
-use Rattle.cook_restore.proofs.WalkLaws.{walked-end}
-use Rattle.cook_restore.proofs.SpelledWalk.{Stands, IsSpelled, spelled, behind, segment_in-unknown, walked-spelled, visit_segment-attachments, outline_of-read}
+use Rattle.shelf_reader.specs.Readings.{gives}
+use Rattle.shelf_reader.specs.Walk.{walked}
+use Rattle.cook_restore.specs.declared.matroska_read.parts.SegmentSeen.{SegmentSeen}
+use Rattle.cook_restore.specs.Walk.{ebml}
+use Rattle.cook_restore.specs.Outline.{visit_segment, nothing_seen, attachments_seen}
+use Rattle.cook_restore.proofs.SpelledWalk.{walked-end, Stands, IsSpelled, spelled, behind, segment_in-unknown, walked-spelled, visit_segment-attachments, outline_of-read}
 use Rattle.cook_top.specs.RoundTrip.{ShowsDirectory}
 use Rattle.cook_top.proofs.ProfileLaws.{Keeps, keeps}
-use Rattle.cook_top.proofs.AttachmentsLaws.{AreSeen, attachments_seen, length-attachments-le}
+use Rattle.cook_top.proofs.AttachmentsLaws.{AreSeen, attachments_are_seen, length-attachments-le}
 use Rattle.cook_top.proofs.HeaderRead.{header_seen, segment_head}
 
 -- the head of the Segment
@@ -26,8 +28,8 @@ unfolding uint_bytes byte_count least_from
 length-segment_piece = refl
 
 -- Info is passed over
-info_passed : (bytes : List ℕ) (place len : ℕ) → visit_segment None (spelled place 0x1549A966 len) bytes ≡ Ok None
-unfolding visit_segment
+info_passed : (bytes : List ℕ) (place len : ℕ) → visit_segment nothing_seen (spelled place 0x1549A966 len) bytes ≡ Ok nothing_seen
+unfolding visit_segment gives
 info_passed bytes place len = refl
 
 -- what a package is made of
@@ -78,22 +80,22 @@ has_parts bytes directory is =
 
 -- the Segment is walked over: Info, and then the Attachments, behind which the file ends
 segment_walked : (bytes : List ℕ) (directory : List File) (parts : HasParts bytes directory) → Keeps directory → (are : AreSeen bytes (spelled parts.attachments 0x1941A469 (length (attachments_of directory))) directory)
-    → walked visit_segment (length bytes) None parts.info bytes ≡ Ok (Some (are.files ++ are.side ∷ []))
+    → walked ebml visit_segment (length bytes) nothing_seen parts.info bytes ≡ Ok (attachments_seen (are.files ++ are.side ∷ []))
 segment_walked bytes directory parts keeps are =
     let info : IsSpelled bytes (length bytes) parts.info 0x1549A966 info_content (element 0x1941A469 (attachments_of directory)) =
     record { known = refl; small = short_info; stands = parts.info_stands; within = omega (arith, parts.attachments_is, parts.end_is) } in
     let attached : IsSpelled bytes (length bytes) parts.attachments 0x1941A469 (attachments_of directory) [] =
     record { known = refl; small = omega (arith, length-attachments-le directory keeps); stands = parts.attachments_stand; within = omega (arith, parts.end_is) } in
-    let found : Option (List FileAt) = Some (are.files ++ are.side ∷ []) in
-    walked-spelled visit_segment bytes (length bytes) parts.info 0x1549A966 info_content _ None None info (info_passed bytes parts.info (length info_content))
-    ∙ ap (λ (n : ℕ). walked visit_segment (length bytes) None n bytes) (sym parts.attachments_is)
-    ∙ walked-spelled visit_segment bytes (length bytes) parts.attachments 0x1941A469 (attachments_of directory) [] None found attached (visit_segment-attachments bytes parts.attachments (length (attachments_of directory)) _ are.walk)
+    let found : SegmentSeen = attachments_seen (are.files ++ are.side ∷ []) in
+    walked-spelled visit_segment bytes (length bytes) parts.info 0x1549A966 info_content _ nothing_seen nothing_seen info (info_passed bytes parts.info (length info_content))
+    ∙ ap (λ (n : ℕ). walked ebml visit_segment (length bytes) nothing_seen n bytes) (sym parts.attachments_is)
+    ∙ walked-spelled visit_segment bytes (length bytes) parts.attachments 0x1941A469 (attachments_of directory) [] nothing_seen found attached (visit_segment-attachments bytes parts.attachments (length (attachments_of directory)) _ are.walk)
     ∙ walked-end visit_segment (length bytes) found (parts.attachments + length (element 0x1941A469 (attachments_of directory))) bytes (omega (arith, parts.end_is))
 
 outline_seen : (bytes : List ℕ) (directory : List File) (parts : HasParts bytes directory) → Keeps directory → AreSeen bytes (spelled parts.attachments 0x1941A469 (length (attachments_of directory))) directory → ShowsDirectory directory bytes
 outline_seen bytes directory parts keeps are =
     let element_at : Element = record { place = parts.segment; id = 0x18538067; start = parts.segment + 12; end = length bytes } in
-    let walk = ap (λ (n : ℕ). walked visit_segment (length bytes) None n bytes) (sym parts.info_is) ∙ segment_walked bytes directory parts keeps are in
+    let walk = ap (λ (n : ℕ). walked ebml visit_segment (length bytes) nothing_seen n bytes) (sym parts.info_is) ∙ segment_walked bytes directory parts keeps are in
     record {
       files = are.files;
       side = are.side;
@@ -109,4 +111,4 @@ package_shows directory rate profile low high =
     let parts = has_parts (package_bytes directory) directory refl in
     let attached : IsSpelled (package_bytes directory) (length (package_bytes directory)) parts.attachments 0x1941A469 (attachments_of directory) [] =
     record { known = refl; small = omega (arith, length-attachments-le directory kept); stands = parts.attachments_stand; within = omega (arith, parts.end_is) } in
-    outline_seen (package_bytes directory) directory parts kept (attachments_seen (package_bytes directory) (length (package_bytes directory)) parts.attachments directory [] kept attached)
+    outline_seen (package_bytes directory) directory parts kept (attachments_are_seen (package_bytes directory) (length (package_bytes directory)) parts.attachments directory [] kept attached)

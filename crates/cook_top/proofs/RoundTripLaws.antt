@@ -22,7 +22,7 @@ use Rattle.cook_restore.specs.declared.matroska_read.files.FileAt.{FileAt}
 use Rattle.cook_restore.specs.declared.error.FileWhy.{FileWhy}
 use Rattle.cook_restore.specs.Meaning.{side_of, others_of, attached_as, bytes_at, checked, content_at, content_meant, with_file_meant, files_meant, records_meant, side_meant, outline_meant, meaning_of}
 use Rattle.cook_restore.specs.Outline.{outline_of}
-use Rattle.cook_restore.proofs.HeaderLaws.{same_id}
+use Rattle.cook_restore.proofs.SpelledWalk.{same_id}
 use Rattle.cook_top.specs.RoundTrip.{file_names, IsDirectory, IsAttached, AreAttached, ShowsDirectory}
 use Rattle.cook_top.proofs.ProfileLaws.{Keeps, keeps}
 use Rattle.cook_top.proofs.AttachmentsLaws.{IsSmall, small_files, names-recorded}

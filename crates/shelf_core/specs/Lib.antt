@@ -4,6 +4,7 @@ pub mod Causes
 pub mod Leaves
 pub mod Listing
 pub mod Pieces
+pub mod Reads
 pub mod Report
 pub mod Store
 pub mod StoreOf

@@ -1,5 +1,5 @@
 ghost use Rattle.std.specs.Prelude.{◌≡◌, ◌≢◌, ◌+◌, ◌^◌, ◌<◌, ◌≤◌, length, take, drop, OnOk, IfErr};
-ghost use Rattle.shelf_core.specs.Causes.{HasCause};
+ghost use Rattle.shelf_core.specs.Reads.{OnlyReads, Caused};
 ghost use Rattle.shelf_core.specs.Pieces.{EndsAt, EndsWithin, IsNotShort};
 ghost use Rattle.shelf_core.specs.Told.{IsTold, HasFile, content};
 
@@ -49,9 +49,8 @@ pub fn read_piece<S: Shelf>(
     ensures short { IfErr result (EndsWithin at (length piece.old)) }
     ensures ended { IsTold (S.files shelf.old) → IfErr result (EndsAt at (length (content (S.files shelf.old) name.now))) }
     ensures whole { IsTold (S.files shelf.old) → at + length piece.old ≤ length (content (S.files shelf.old) name.now) → IfErr result IsNotShort }
-    ensures files { S.files shelf.new ≡ S.files shelf.old }
-    ensures unsealed { S.unsealed shelf.new ≡ S.unsealed shelf.old }
-    ensures cause { HasCause PieceError.Failed PieceError.NoMemory (S.faults shelf.old) (S.faults shelf.new) (S.starved shelf.old) (S.starved shelf.new) result }
+    ensures kept { OnlyReads S.Shelf shelf.old shelf.new }
+    ensures cause { Caused S.Shelf PieceError.Failed PieceError.NoMemory shelf.old shelf.new result }
 {
     let count = shelf.read_at(name, at, piece)?;
     if count < piece.len() {

@@ -1,28 +1,52 @@
-ghost use Rattle.std.specs.Prelude.{◌≡◌, ◌+◌, ◌≤◌, Ok, IfOk, OnOk, IfErr, IfSome};
-ghost use Rattle.shelf_core.specs.Told.{HasFile};
-ghost use Rattle.cook_restore.specs.Seen.{seen, Gives, Refuses, Holds, StopsFor, IsKept, shaped};
-ghost use Rattle.cook_restore.specs.Walk.{element_of, element_in, segment_of, segment_in};
+ghost use Rattle.std.specs.Prelude.{◌≡◌, ◌+◌, ◌<◌, ◌≤◌, IfOk, IfErr, IfSome};
+ghost use Rattle.shelf_reader.specs.Keeping.{known, IsReady, Reads, IsFault};
+ghost use Rattle.shelf_reader.specs.Readings.{answers, Answers};
+ghost use Rattle.shelf_reader.specs.Seen.{Seen};
+ghost use Rattle.cook_restore.specs.Walk.{head_in, element_of, element_in, segment_of, segment_in};
 ghost use Rattle.cook_restore.specs.Inside.{IsInside};
 
-use crate::matroska_read::error::OutlineError;
+use crate::matroska_read::error::{OutlineFault, Reading, shape};
 use crate::matroska_read::parts::Element;
-use crate::matroska_read::window::{Source, Window, read_head};
-use ebml_core::{Head, Size};
+use ebml_core::{Head, Size, head};
 use shelf_core::Shelf;
+use shelf_reader::{Items, Reader};
 
 /// The identifier of a Segment (RFC 9559, section 5.1).
 const SEGMENT: u32 = 0x18538067;
 
+/// The longest head: an identifier of 4 bytes and a size of 8.
+const LONGEST_HEAD: u64 = 12;
+
+// The head at a place of a parent that ends at `end`, where there is one.
+#[tactic(auto, using(crate::proofs::HeadLaws::head_laws, shelf_reader::proofs::ReadingLaws::reading_laws))]
+fn read_head<S: Shelf>(
+    reader: &mut Reader<'_, '_, S>,
+    place: u64,
+    end: u64,
+) -> Reading<Option<Head>>
+    requires ready { IsReady S.Shelf reader.old }
+    requires before { place ≤ end }
+    requires within { end ≤ reader.old.len }
+    ensures exact { Answers (known S.Shelf reader.old) (answers (head_in end place)) result }
+    ensures len { IfOk result (λ head. IfSome head (λ h. (2 ≤ h.len) × (place + h.len ≤ end))) }
+    ensures reads { Reads S.Shelf reader.old reader.new result }
+{
+    let to = place + (end - place).min(LONGEST_HEAD);
+    reader.show(place, to)?;
+    Ok(head(reader.part(place, to)))
+}
+
 // The element that a head begins at a place of a parent that ends at `end`. Its size is compared with the parent's end
 // before it is believed.
-#[tactic(auto, unfolding(crate::specs::Walk::element_of, crate::specs::Walk::sized))]
-fn element_of(end: u64, place: u64, head: Option<Head>) -> Result<Element, OutlineError>
+#[tactic(auto, using(shelf_reader::proofs::ReadingLaws::reading_laws), unfolding(crate::specs::Walk::element_of, crate::specs::Walk::sized))]
+fn element_of(end: u64, place: u64, head: Option<Head>) -> Reading<Element>
     requires { IfSome head (λ h. (2 ≤ h.len) × (place + h.len ≤ end)) }
-    ensures exact { result ≡ shaped (element_of end place head) }
+    ensures exact { (known : Seen) → Answers known (element_of end place head) result }
     ensures inside { IfOk result (IsInside place end) }
+    ensures fault { IfErr result IsFault }
 {
     let Some(Head { id, size, len }) = head else {
-        return Err(OutlineError::Shape { place });
+        return Err(shape(place));
     };
     let start = place + len as u64;
     match size {
@@ -32,22 +56,23 @@ fn element_of(end: u64, place: u64, head: Option<Head>) -> Result<Element, Outli
             start,
             end: start + size,
         }),
-        _ => Err(OutlineError::Shape { place }),
+        _ => Err(shape(place)),
     }
 }
 
 // The Segment that a head begins at a place of a file that ends at `end`. One of unknown size ends with the file.
-#[tactic(auto, unfolding(crate::specs::Walk::segment_of, crate::specs::Walk::segment_sized, crate::specs::Walk::element_of, crate::specs::Walk::sized))]
-fn segment_of(end: u64, place: u64, head: Option<Head>) -> Result<Element, OutlineError>
+#[tactic(auto, using(shelf_reader::proofs::ReadingLaws::reading_laws), unfolding(crate::specs::Walk::segment_of, crate::specs::Walk::segment_sized, crate::specs::Walk::element_of, crate::specs::Walk::sized))]
+fn segment_of(end: u64, place: u64, head: Option<Head>) -> Reading<Element>
     requires { IfSome head (λ h. (2 ≤ h.len) × (place + h.len ≤ end)) }
-    ensures exact { result ≡ shaped (segment_of end place head) }
+    ensures exact { (known : Seen) → Answers known (segment_of end place head) result }
     ensures inside { IfOk result (IsInside place end) }
+    ensures fault { IfErr result IsFault }
 {
     let Some(Head { id, size, len }) = head else {
-        return Err(OutlineError::Shape { place });
+        return Err(shape(place));
     };
     if id != SEGMENT {
-        return Err(OutlineError::Shape { place });
+        return Err(shape(place));
     }
     match size {
         Size::Unknown => Ok(Element {
@@ -60,48 +85,65 @@ fn segment_of(end: u64, place: u64, head: Option<Head>) -> Result<Element, Outli
     }
 }
 
+/// The elements of EBML (RFC 8794, section 3), which stand one after the other in their parent.
+pub struct Ebml;
+
+impl Items for Ebml {
+    ghost use Rattle.cook_restore.specs.Walk.{ebml};
+    ghost use Rattle.cook_restore.specs.Inside.{KeepsInside};
+    ghost use Rattle.cook_restore.specs.WalkGoesOn.{element_goes_on, keeps-ends, keeps-widens};
+
+    type Item = Element;
+
+    type Fault = OutlineFault;
+
+    ghost grammar = { ebml };
+
+    ghost Sits = { KeepsInside };
+
+    fn behind(item: Element) -> u64 {
+        item.end
+    }
+
+    fn item<S: Shelf>(reader: &mut Reader<'_, '_, S>, place: u64, end: u64) -> Reading<Element> {
+        read_element(reader, place, end)
+    }
+
+    ghost ends = { keeps-ends };
+
+    ghost widens = { keeps-widens };
+
+    ghost goes_on = { element_goes_on };
+}
+
 /// The element at a place of a parent that ends at `end`.
-#[tactic(auto, using(crate::proofs::ElementLaws::element_laws, crate::proofs::SeenLaws::seen_laws))]
+#[tactic(auto, using(shelf_reader::proofs::ReadingLaws::reading_laws, shelf_reader::proofs::KeepingLaws::keeping_laws), unfolding(crate::specs::Walk::element_in))]
 pub fn read_element<S: Shelf>(
-    shelf: &mut S,
-    source: Source<'_>,
-    window: &mut Window,
+    reader: &mut Reader<'_, '_, S>,
     place: u64,
     end: u64,
-) -> Result<Element, OutlineError>
-    requires there { HasFile (S.files shelf.old) source.name.now }
+) -> Reading<Element>
+    requires ready { IsReady S.Shelf reader.old }
     requires before { place ≤ end }
-    requires within { end ≤ source.len }
-    requires holds { Holds (seen (S.files shelf.old) source.name.now source.len) window.old.from window.old.bytes.items }
-    ensures exact { IfOk result (Gives (seen (S.files shelf.old) source.entry.name.now source.entry.len) (element_in end place)) }
-    ensures refuses { IfErr result (Refuses (seen (S.files shelf.old) source.entry.name.now source.entry.len) (element_in end place)) }
+    requires within { end ≤ reader.old.len }
+    ensures exact { Answers (known S.Shelf reader.old) (element_in end place) result }
     ensures inside { IfOk result (IsInside place end) }
-    ensures holds { OnOk result (Holds (seen (S.files shelf.old) source.entry.name.now source.entry.len) window.new.from window.new.bytes.items) }
-    ensures kept { IsKept (S.files shelf.old) (S.files shelf.new) (S.unsealed shelf.old) (S.unsealed shelf.new) (S.faults shelf.old) (S.faults shelf.new) (S.starved shelf.old) (S.starved shelf.new) }
-    ensures cause { IfErr result (StopsFor source.entry.len (S.faults shelf.old) (S.faults shelf.new)) }
+    ensures reads { Reads S.Shelf reader.old reader.new result }
 {
-    let head = read_head(shelf, source, window, place, end)?;
+    let head = read_head(reader, place, end)?;
     element_of(end, place, head)
 }
 
 /// The Segment at a place of the file.
-#[tactic(auto, using(crate::proofs::ElementLaws::element_laws, crate::proofs::SeenLaws::seen_laws))]
-pub fn read_segment_head<S: Shelf>(
-    shelf: &mut S,
-    source: Source<'_>,
-    window: &mut Window,
-    place: u64,
-) -> Result<Element, OutlineError>
-    requires there { HasFile (S.files shelf.old) source.name.now }
-    requires within { place ≤ source.len }
-    requires holds { Holds (seen (S.files shelf.old) source.name.now source.len) window.old.from window.old.bytes.items }
-    ensures exact { IfOk result (Gives (seen (S.files shelf.old) source.entry.name.now source.entry.len) (segment_in source.entry.len place)) }
-    ensures refuses { IfErr result (Refuses (seen (S.files shelf.old) source.entry.name.now source.entry.len) (segment_in source.entry.len place)) }
-    ensures inside { IfOk result (IsInside place source.entry.len) }
-    ensures holds { OnOk result (Holds (seen (S.files shelf.old) source.entry.name.now source.entry.len) window.new.from window.new.bytes.items) }
-    ensures kept { IsKept (S.files shelf.old) (S.files shelf.new) (S.unsealed shelf.old) (S.unsealed shelf.new) (S.faults shelf.old) (S.faults shelf.new) (S.starved shelf.old) (S.starved shelf.new) }
-    ensures cause { IfErr result (StopsFor source.entry.len (S.faults shelf.old) (S.faults shelf.new)) }
+#[tactic(auto, using(shelf_reader::proofs::ReadingLaws::reading_laws, shelf_reader::proofs::KeepingLaws::keeping_laws), unfolding(crate::specs::Walk::segment_in))]
+pub fn read_segment_head<S: Shelf>(reader: &mut Reader<'_, '_, S>, place: u64) -> Reading<Element>
+    requires ready { IsReady S.Shelf reader.old }
+    requires within { place ≤ reader.old.len }
+    ensures exact { Answers (known S.Shelf reader.old) (segment_in reader.old.len place) result }
+    ensures inside { IfOk result (IsInside place reader.old.len) }
+    ensures reads { Reads S.Shelf reader.old reader.new result }
 {
-    let head = read_head(shelf, source, window, place, source.len)?;
-    segment_of(source.len, place, head)
+    let end = reader.len();
+    let head = read_head(reader, place, end)?;
+    segment_of(end, place, head)
 }

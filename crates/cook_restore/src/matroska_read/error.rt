@@ -1,7 +1,17 @@
-use cook_bits::NoMemory;
-use shelf_core::PieceError;
-use std::alloc::{AllocError, AllocFailed};
+ghost use Rattle.std.specs.Prelude.{◌≡◌};
+ghost use Rattle.shelf_reader.specs.declared.error.ReadError.TheVariants as errors;
+ghost use Rattle.cook_restore.specs.declared.matroska_read.error.OutlineFault.TheVariants as faults;
+
+use shelf_reader::ReadError;
 use thiserror::Error;
+
+/// What is wrong with a file that is read as a package: its first fault.
+#[derive(Clone, Copy, Debug, PartialEq, Eq, Error)]
+pub enum OutlineFault {
+    /// The element whose first byte stands at `place` breaks a rule of the format, and none before it does.
+    #[error("bad file at byte {place}")]
+    Shape { place: u64 },
+}
 
 /// Why there is no outline.
 #[derive(Clone, Copy, Debug, PartialEq, Eq, Error)]
@@ -20,50 +30,28 @@ pub enum OutlineError {
     NoMemory,
 }
 
-impl From<PieceError> for OutlineError {
+/// What reading a package answers, inside this crate.
+pub type Reading<T> = Result<T, ReadError<OutlineFault>>;
+
+/// The fault of the element at a place.
+pub fn shape(place: u64) -> ReadError<OutlineFault>
+    ensures { result ≡ errors.Fault (faults.Shape place) }
+{
+    ReadError::Fault(OutlineFault::Shape { place })
+}
+
+impl From<ReadError<OutlineFault>> for OutlineError {
     ghost use Rattle.std.specs.Prelude.{◌≡◌};
-    ghost use Rattle.cook_restore.specs.Seen.{outline_error};
+    ghost use Rattle.cook_restore.specs.Answered.{outline_error};
 
     ghost from_gives = { λ e result. result ≡ outline_error e };
 
-    fn from(error: PieceError) -> Self {
+    fn from(error: ReadError<OutlineFault>) -> Self {
         match error {
-            PieceError::Short { now } => OutlineError::Short { now },
-            PieceError::Failed => OutlineError::Failed,
-            PieceError::NoMemory => OutlineError::NoMemory,
+            ReadError::Fault(OutlineFault::Shape { place }) => OutlineError::Shape { place },
+            ReadError::Short { now } => OutlineError::Short { now },
+            ReadError::Failed => OutlineError::Failed,
+            ReadError::NoMemory => OutlineError::NoMemory,
         }
-    }
-}
-
-impl From<NoMemory> for OutlineError {
-    ghost use Rattle.std.specs.Prelude.{◌≡◌};
-    ghost use Rattle.cook_restore.specs.declared.matroska_read.error.OutlineError.TheVariants as errors;
-
-    ghost from_gives = { λ e result. result ≡ errors.NoMemory };
-
-    fn from(_: NoMemory) -> Self {
-        OutlineError::NoMemory
-    }
-}
-
-impl From<AllocError> for OutlineError {
-    ghost use Rattle.std.specs.Prelude.{◌≡◌};
-    ghost use Rattle.cook_restore.specs.declared.matroska_read.error.OutlineError.TheVariants as errors;
-
-    ghost from_gives = { λ e result. result ≡ errors.NoMemory };
-
-    fn from(_: AllocError) -> Self {
-        OutlineError::NoMemory
-    }
-}
-
-impl<T: Drop> From<AllocFailed<T>> for OutlineError {
-    ghost use Rattle.std.specs.Prelude.{◌≡◌};
-    ghost use Rattle.cook_restore.specs.declared.matroska_read.error.OutlineError.TheVariants as errors;
-
-    ghost from_gives = { λ e result. result ≡ errors.NoMemory };
-
-    fn from(_: AllocFailed<T>) -> Self {
-        OutlineError::NoMemory
     }
 }

@@ -1,14 +1,15 @@
-ghost use Rattle.std.specs.Prelude.{◌≡◌, ◌-◌, ◌≤◌, Ok, None, [], false, length, codes, IfOk, OnOk, IfErr, IfSome};
-ghost use Rattle.shelf_core.specs.Told.{HasFile};
-ghost use Rattle.cook_restore.specs.Seen.{seen, Sees, Gives, Refuses, Interrupts, Holds, StopsFor, IsKept};
-ghost use Rattle.cook_restore.specs.Outline.{is_understood, is_number_understood, bounds, bounds_of, visit_header, header_read, header_of};
+ghost use Rattle.std.specs.Prelude.{◌≡◌, ◌≤◌, IfOk};
+ghost use Rattle.shelf_reader.specs.Keeping.{known, IsReady, Reads};
+ghost use Rattle.shelf_reader.specs.Readings.{answers, Answers};
+ghost use Rattle.cook_restore.specs.Outline.{is_understood, is_number_understood, bounds, bounds_of, header_of, header_read};
+ghost use Rattle.cook_restore.specs.Inside.{KeepsInside};
 
-use crate::matroska_read::element::read_element;
-use crate::matroska_read::error::OutlineError;
-use crate::matroska_read::parts::{Bounds, Element};
-use crate::matroska_read::window::{Source, Window, is_text, part, show};
+use crate::matroska_read::element::{Ebml, read_element};
+use crate::matroska_read::error::{Reading, shape};
+use crate::matroska_read::parts::{Bounds, Element, HeaderSeen};
 use byteorder::{BigEndian, ByteOrder};
 use shelf_core::Shelf;
+use shelf_reader::{Children, Reader, walk};
 
 // The header and the children of it that are read (RFC 8794, section 11.2).
 
@@ -68,121 +69,84 @@ fn is_understood(bounds: Bounds, content: &[u8]) -> bool
 }
 
 // Whether a number of the header is understood.
-#[tactic(auto, using(crate::proofs::WindowLaws::window_laws, crate::proofs::SeenLaws::seen_laws))]
+#[tactic(auto, using(shelf_reader::proofs::ReadingLaws::reading_laws, shelf_reader::proofs::KeepingLaws::keeping_laws, crate::proofs::NumberLaws::number_laws))]
 fn is_number_understood<S: Shelf>(
-    shelf: &mut S,
-    source: Source<'_>,
-    window: &mut Window,
+    reader: &mut Reader<'_, '_, S>,
     child: Element,
     bounds: Bounds,
-) -> Result<bool, OutlineError>
-    requires there { HasFile (S.files shelf.old) source.name.now }
-    requires content { child.start ≤ child.end }
-    requires within { child.end ≤ source.len }
-    requires holds { Holds (seen (S.files shelf.old) source.name.now source.len) window.old.from window.old.bytes.items }
-    ensures exact { IfOk result (Sees (seen (S.files shelf.old) source.entry.name.now source.entry.len) (is_number_understood bounds child)) }
-    ensures holds { OnOk result (Holds (seen (S.files shelf.old) source.entry.name.now source.entry.len) window.new.from window.new.bytes.items) }
-    ensures interrupts { IfErr result (Interrupts (seen (S.files shelf.old) source.entry.name.now source.entry.len)) }
-    ensures kept { IsKept (S.files shelf.old) (S.files shelf.new) (S.unsealed shelf.old) (S.unsealed shelf.new) (S.faults shelf.old) (S.faults shelf.new) (S.starved shelf.old) (S.starved shelf.new) }
-    ensures cause { IfErr result (StopsFor source.entry.len (S.faults shelf.old) (S.faults shelf.new)) }
+) -> Reading<bool>
+    requires ready { IsReady S.Shelf reader.old }
+    requires inside { KeepsInside reader.old.len child }
+    ensures exact { Answers (known S.Shelf reader.old) (answers (is_number_understood bounds child)) result }
+    ensures reads { Reads S.Shelf reader.old reader.new result }
 {
-    let len = child.end - child.start;
-    if len > LONGEST_NUMBER {
+    if child.end - child.start > LONGEST_NUMBER {
         return Ok(false);
     }
-    show(shelf, source, window, child.start, len)?;
-    Ok(is_understood(bounds, part(window, child.start, len)))
+    reader.show(child.start, child.end)?;
+    Ok(is_understood(bounds, reader.part(child.start, child.end)))
 }
 
-// A child of the header, and whether a DocType was seen.
-#[tactic(auto, using(crate::proofs::HeaderLaws::child_laws, crate::proofs::SeenLaws::seen_laws))]
-fn header_child<S: Shelf>(
-    shelf: &mut S,
-    source: Source<'_>,
-    window: &mut Window,
-    child: Element,
-    known: bool,
-) -> Result<bool, OutlineError>
-    requires there { HasFile (S.files shelf.old) source.name.now }
-    requires content { child.start ≤ child.end }
-    requires within { child.end ≤ source.len }
-    requires holds { Holds (seen (S.files shelf.old) source.name.now source.len) window.old.from window.old.bytes.items }
-    ensures exact { IfOk result (Gives (seen (S.files shelf.old) source.entry.name.now source.entry.len) (visit_header known child)) }
-    ensures refuses { IfErr result (Refuses (seen (S.files shelf.old) source.entry.name.now source.entry.len) (visit_header known child)) }
-    ensures holds { OnOk result (Holds (seen (S.files shelf.old) source.entry.name.now source.entry.len) window.new.from window.new.bytes.items) }
-    ensures kept { IsKept (S.files shelf.old) (S.files shelf.new) (S.unsealed shelf.old) (S.unsealed shelf.new) (S.faults shelf.old) (S.faults shelf.new) (S.starved shelf.old) (S.starved shelf.new) }
-    ensures cause { IfErr result (StopsFor source.entry.len (S.faults shelf.old) (S.faults shelf.new)) }
-{
-    let place = child.place;
-    if child.id == DOC_TYPE {
-        if is_text(shelf, source, window, child.start, child.end, b"matroska")? {
-            return Ok(true);
+#[tactic(auto, using(shelf_reader::proofs::ReadingLaws::reading_laws, shelf_reader::proofs::KeepingLaws::keeping_laws), unfolding(crate::specs::Outline::visit_header, crate::specs::Outline::number_visited))]
+impl Children<Ebml> for HeaderSeen {
+    ghost use Rattle.cook_restore.specs.Outline.{visit_header};
+
+    ghost visit = { visit_header };
+
+    ghost Fits = { λ len seen. Unit {0} };
+
+    fn with_child<S: Shelf>(
+        self,
+        reader: &mut Reader<'_, '_, S>,
+        child: Element,
+    ) -> Reading<HeaderSeen> {
+        let place = child.place;
+        if child.id == DOC_TYPE {
+            if reader.is_text(child.start, child.end, b"matroska")? {
+                return Ok(HeaderSeen { doc_type: true });
+            }
+            return Err(shape(place));
         }
-        return Err(OutlineError::Shape { place });
+        let Some(bounds) = bounds_of(child.id) else {
+            return Ok(self);
+        };
+        if is_number_understood(reader, child, bounds)? {
+            return Ok(self);
+        }
+        Err(shape(place))
     }
-    let Some(bounds) = bounds_of(child.id) else {
-        return Ok(known);
-    };
-    if is_number_understood(shelf, source, window, child, bounds)? {
-        return Ok(known);
-    }
-    Err(OutlineError::Shape { place })
 }
 
 // The children of the header, and the place behind it.
-#[tactic(auto, using(crate::proofs::WalkLaws::walk_laws, crate::proofs::HeaderLaws::header_laws))]
-fn header_children<S: Shelf>(
-    shelf: &mut S,
-    source: Source<'_>,
-    window: &mut Window,
-    header: Element,
-) -> Result<u64, OutlineError>
-    requires there { HasFile (S.files shelf.old) source.name.now }
-    requires content { header.start ≤ header.end }
-    requires within { header.end ≤ source.len }
-    requires holds { Holds (seen (S.files shelf.old) source.name.now source.len) window.old.from window.old.bytes.items }
-    ensures exact { IfOk result (Gives (seen (S.files shelf.old) source.entry.name.now source.entry.len) (header_read header)) }
-    ensures refuses { IfErr result (Refuses (seen (S.files shelf.old) source.entry.name.now source.entry.len) (header_read header)) }
-    ensures behind { IfOk result (λ place. place ≤ source.entry.len) }
-    ensures holds { OnOk result (Holds (seen (S.files shelf.old) source.entry.name.now source.entry.len) window.new.from window.new.bytes.items) }
-    ensures kept { IsKept (S.files shelf.old) (S.files shelf.new) (S.unsealed shelf.old) (S.unsealed shelf.new) (S.faults shelf.old) (S.faults shelf.new) (S.starved shelf.old) (S.starved shelf.new) }
-    ensures cause { IfErr result (StopsFor source.entry.len (S.faults shelf.old) (S.faults shelf.new)) }
+#[tactic(auto, using(shelf_reader::proofs::ReadingLaws::reading_laws, shelf_reader::proofs::KeepingLaws::keeping_laws), unfolding(crate::specs::Outline::header_read))]
+fn header_children<S: Shelf>(reader: &mut Reader<'_, '_, S>, header: Element) -> Reading<u64>
+    requires ready { IsReady S.Shelf reader.old }
+    requires inside { KeepsInside reader.old.len header }
+    ensures exact { Answers (known S.Shelf reader.old) (header_read header) result }
+    ensures behind { IfOk result (λ place. place ≤ reader.old.len) }
+    ensures reads { Reads S.Shelf reader.old reader.new result }
 {
-    let mut known = false;
-    let mut at = header.start;
-    while at < header.end {
-        let child = read_element(shelf, source, window, at, header.end)?;
-        known = header_child(shelf, source, window, child, known)?;
-        at = child.end;
-    }
-    if known {
+    let unseen = HeaderSeen { doc_type: false };
+    let seen = walk::<S, Ebml, HeaderSeen>(reader, unseen, header.start, header.end)?;
+    if seen.doc_type {
         Ok(header.end)
     } else {
-        Err(OutlineError::Shape {
-            place: header.place,
-        })
+        Err(shape(header.place))
     }
 }
 
 /// Reads the EBML header that a file begins with, and answers the place behind it.
-#[tactic(auto, using(crate::proofs::HeaderLaws::first_laws, crate::proofs::SeenLaws::seen_laws))]
-pub fn read_header<S: Shelf>(
-    shelf: &mut S,
-    source: Source<'_>,
-    window: &mut Window,
-) -> Result<u64, OutlineError>
-    requires there { HasFile (S.files shelf.old) source.name.now }
-    requires holds { Holds (seen (S.files shelf.old) source.name.now source.len) window.old.from window.old.bytes.items }
-    ensures exact { IfOk result (Gives (seen (S.files shelf.old) source.entry.name.now source.entry.len) header_of) }
-    ensures refuses { IfErr result (Refuses (seen (S.files shelf.old) source.entry.name.now source.entry.len) header_of) }
-    ensures behind { IfOk result (λ place. place ≤ source.entry.len) }
-    ensures holds { OnOk result (Holds (seen (S.files shelf.old) source.entry.name.now source.entry.len) window.new.from window.new.bytes.items) }
-    ensures kept { IsKept (S.files shelf.old) (S.files shelf.new) (S.unsealed shelf.old) (S.unsealed shelf.new) (S.faults shelf.old) (S.faults shelf.new) (S.starved shelf.old) (S.starved shelf.new) }
-    ensures cause { IfErr result (StopsFor source.entry.len (S.faults shelf.old) (S.faults shelf.new)) }
+#[tactic(auto, using(shelf_reader::proofs::ReadingLaws::reading_laws, shelf_reader::proofs::KeepingLaws::keeping_laws), unfolding(crate::specs::Outline::header_of))]
+pub fn read_header<S: Shelf>(reader: &mut Reader<'_, '_, S>) -> Reading<u64>
+    requires ready { IsReady S.Shelf reader.old }
+    ensures exact { Answers (known S.Shelf reader.old) (header_of reader.old.len) result }
+    ensures behind { IfOk result (λ place. place ≤ reader.old.len) }
+    ensures reads { Reads S.Shelf reader.old reader.new result }
 {
-    let header = read_element(shelf, source, window, 0, source.len)?;
+    let end = reader.len();
+    let header = read_element(reader, 0, end)?;
     if header.id != EBML {
-        return Err(OutlineError::Shape { place: 0 });
+        return Err(shape(0));
     }
-    header_children(shelf, source, window, header)
+    header_children(reader, header)
 }

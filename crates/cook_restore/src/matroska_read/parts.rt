@@ -1,3 +1,5 @@
+use crate::matroska_read::files::Outline;
+
 /// An element of a file, by places of the file.
 #[derive(Clone, Copy, Debug, PartialEq, Eq)]
 pub struct Element {
@@ -35,4 +37,18 @@ pub struct Fields {
     pub name: Option<Span>,
     pub media_type: Option<Span>,
     pub content: Option<Span>,
+}
+
+/// What was seen of the EBML header's children.
+#[derive(Clone, Copy, Debug, PartialEq, Eq)]
+pub struct HeaderSeen {
+    /// Whether a DocType was seen.
+    pub doc_type: bool,
+}
+
+/// What was seen of the Segment's children.
+#[derive(Debug, Drop)]
+pub struct SegmentSeen {
+    /// The files of its Attachments, where those were seen.
+    pub files: Option<Outline>,
 }

@@ -1,36 +1,32 @@
 ghost use Rattle.std.specs.Prelude.{◌≡◌, ◌≤◌, ◌+◌, Ok, length, All, IfOk, IfErr};
+ghost use Rattle.shelf_core.specs.Reads.{OnlyReads};
 ghost use Rattle.shelf_core.specs.Told.{IsTold, HasFile, content};
-ghost use Rattle.cook_restore.specs.Seen.{seen, Gives, Refuses, StopsFor, IsKept, IsRefusal};
-ghost use Rattle.cook_restore.specs.Outline.{outline_of};
+ghost use Rattle.shelf_reader.specs.Keeping.{known, IsReady, Reads};
+ghost use Rattle.shelf_reader.specs.Readings.{Answers};
+ghost use Rattle.cook_restore.specs.Answered.{IsRefusal, OutlineStops};
+ghost use Rattle.cook_restore.specs.Outline.{outline_in, outline_of};
 ghost use Rattle.cook_restore.specs.Inside.{EndsBy, AllEndBy};
 
 use crate::matroska_read::element::read_segment_head;
-use crate::matroska_read::error::OutlineError;
+use crate::matroska_read::error::{OutlineError, Reading};
 use crate::matroska_read::files::Outline;
 use crate::matroska_read::header::read_header;
 use crate::matroska_read::segment::read_segment;
-use crate::matroska_read::window::{Source, empty_window};
 use shelf_core::Shelf;
+use shelf_reader::Reader;
 use std::alloc::Global;
 
 // The outline, as a reading of what is seen of the file.
-#[tactic(auto, using(crate::proofs::TopLaws::outline_laws, crate::proofs::SeenLaws::seen_laws))]
-fn read_outline<S: Shelf>(
-    alloc: Global,
-    shelf: &mut S,
-    source: Source<'_>,
-) -> Result<Outline, OutlineError>
-    requires { HasFile (S.files shelf.old) source.name.now }
-    ensures exact { IfOk result (Gives (seen (S.files shelf.old) source.entry.name.now source.entry.len) outline_of) }
-    ensures refuses { IfErr result (Refuses (seen (S.files shelf.old) source.entry.name.now source.entry.len) outline_of) }
-    ensures ends { IfOk result (AllEndBy source.entry.len) }
-    ensures kept { IsKept (S.files shelf.old) (S.files shelf.new) (S.unsealed shelf.old) (S.unsealed shelf.new) (S.faults shelf.old) (S.faults shelf.new) (S.starved shelf.old) (S.starved shelf.new) }
-    ensures cause { IfErr result (StopsFor source.entry.len (S.faults shelf.old) (S.faults shelf.new)) }
+#[tactic(auto, using(shelf_reader::proofs::ReadingLaws::reading_laws, shelf_reader::proofs::KeepingLaws::keeping_laws), unfolding(crate::specs::Outline::outline_in))]
+fn read_outline<S: Shelf>(reader: &mut Reader<'_, '_, S>) -> Reading<Outline>
+    requires ready { IsReady S.Shelf reader.old }
+    ensures exact { Answers (known S.Shelf reader.old) (outline_in reader.old.len) result }
+    ensures ends { IfOk result (AllEndBy reader.old.len) }
+    ensures reads { Reads S.Shelf reader.old reader.new result }
 {
-    let mut window = empty_window(alloc);
-    let place = read_header(shelf, source, &mut window)?;
-    let segment = read_segment_head(shelf, source, &mut window, place)?;
-    read_segment(alloc, shelf, source, &mut window, segment)
+    let place = read_header(reader)?;
+    let segment = read_segment_head(reader, place)?;
+    read_segment(reader, segment)
 }
 
 /// The outline of a file of `len` bytes, read as a Matroska file (RFC 9559): the files that are attached to it.
@@ -46,9 +42,11 @@ pub fn outline<S: Shelf>(
     requires { HasFile (S.files shelf.old) name.now }
     ensures exact { IfOk result (λ files. IsTold (S.files shelf.old) → len ≡ length (content (S.files shelf.old) name.now) → outline_of (content (S.files shelf.old) name.now) ≡ Ok files) }
     ensures fault { IfErr result (λ error. IsTold (S.files shelf.old) → len ≡ length (content (S.files shelf.old) name.now) → IsRefusal (outline_of (content (S.files shelf.old) name.now)) error) }
-    ensures cause { IfErr result (StopsFor len (S.faults shelf.old) (S.faults shelf.new)) }
+    ensures cause { IfErr result (OutlineStops S.Shelf len shelf.old shelf.new) }
     ensures within { IfOk result (All (EndsBy len)) }
-    ensures kept { IsKept (S.files shelf.old) (S.files shelf.new) (S.unsealed shelf.old) (S.unsealed shelf.new) (S.faults shelf.old) (S.faults shelf.new) (S.starved shelf.old) (S.starved shelf.new) }
+    ensures kept { OnlyReads S.Shelf shelf.old shelf.new }
 {
-    read_outline(alloc, shelf, Source { name, len })
+    let mut window = Vec::new(alloc);
+    let mut reader = Reader::new(alloc, shelf, name, len, &mut window);
+    Ok(read_outline(&mut reader)?)
 }

@@ -8,15 +8,15 @@ use Rattle.cook_top.proofs.restore.restore_files.Goals as goal
 pub returns-in_err-restorer-clause-stopped : goal.returns-in_err-restorer-clause-stopped
 returns-in_err-restorer-clause-stopped g c =
     let law : RestoreLaw (g.S.Shelf.files c.args.shelf.now) (g.S.Shelf.files c.open_package.new.shelf) c.args.pkg.now c.args.dir.now (status_of_restore_error c.in_err-restorer.field-0.0) =
-    law_unopened _ _ _ _ _ _ c.in_err-restorer.field-0.0 c.requires.empty c.in_err-restorer.ensures.stopped c.in_err-restorer.ensures.kept.told in
+    law_unopened _ _ _ _ _ _ c.in_err-restorer.field-0.0 c.requires.empty c.in_err-restorer.ensures.stopped c.in_err-restorer.ensures.kept.files in
     search (rules, law)
 
 pub loop-file-init : goal.loop-file-init
 loop-file-init g c = record {
-  way = under_way-opened _ _ _ _ _ _ c.in_ok-restorer.ensures.kept.told c.requires.empty c.in_ok-restorer.ensures.opened refl refl;
+  way = under_way-opened _ _ _ _ _ _ c.in_ok-restorer.ensures.kept.files c.requires.empty c.in_ok-restorer.ensures.opened refl refl;
   small = omega arith;
-  unsealed = c.in_ok-restorer.ensures.kept.pending;
-  faults = c.in_ok-restorer.ensures.kept.no_fault_less;
+  unsealed = c.in_ok-restorer.ensures.kept.unsealed;
+  faults = c.in_ok-restorer.ensures.kept.faults;
 }
 
 pub loop-file-preserved : goal.loop-file-preserved

@@ -1,12 +1,21 @@
-use Rattle.cook_restore.specs.Outline.{outline_of}
-use Rattle.cook_restore.proofs.TopLaws.{told-known, told-refused, told-within}
+use Rattle.std.proofs.Common.{◌≡◌, refl, subst, rules}
+use Rattle.shelf_reader.specs.Keeping.{known}
+use Rattle.shelf_reader.specs.Seen.{seen}
+use Rattle.cook_restore.specs.Inside.{AllEndBy}
+use Rattle.cook_restore.proofs.OpenLaws.{end_by-all}
+use Rattle.cook_restore.proofs.TopLaws.{outline-known, outline-refused}
 use Rattle.cook_restore.proofs.matroska_read.top.outline.Goals as goal
 
-pub returns-clause-exact : goal.returns-clause-exact
-returns-clause-exact g c = told-known (g.S.Shelf.files c.args.shelf.now) c.args.name.now c.args.len outline_of c.read_outline.result c.read_outline.ensures.exact
+pub returns-in_err-read_outline-clause-fault : goal.returns-in_err-read_outline-clause-fault
+returns-in_err-read_outline-clause-fault g c =
+    let same : known g.S.Shelf c.new-reader.result ≡ seen (g.S.Shelf.files c.args.shelf.now) c.args.name.now c.args.len = rw (c.new-reader.ensures.shelf, c.new-reader.ensures.name, c.new-reader.ensures.len) refl in
+    let refused = outline-refused (g.S.Shelf.files c.args.shelf.now) c.args.name.now c.args.len c.new-reader.result.len _ c.in_err-read_outline.field-0.0 same c.new-reader.ensures.len c.in_err-read_outline.ensures.exact in
+    search (rules, refused)
 
-pub returns-clause-fault : goal.returns-clause-fault
-returns-clause-fault g c = told-refused (g.S.Shelf.files c.args.shelf.now) c.args.name.now c.args.len outline_of c.read_outline.result c.read_outline.ensures.refuses
+pub returns-clause-exact : goal.returns-clause-exact
+returns-clause-exact g c =
+    let same : known g.S.Shelf c.new-reader.result ≡ seen (g.S.Shelf.files c.args.shelf.now) c.args.name.now c.args.len = rw (c.new-reader.ensures.shelf, c.new-reader.ensures.name, c.new-reader.ensures.len) refl in
+    outline-known (g.S.Shelf.files c.args.shelf.now) c.args.name.now c.args.len c.new-reader.result.len _ _ same c.new-reader.ensures.len c.in_ok-read_outline.ensures.exact
 
 pub returns-clause-within : goal.returns-clause-within
-returns-clause-within g c = told-within c.args.len c.read_outline.result c.read_outline.ensures.ends
+returns-clause-within g c = end_by-all c.args.len _ (subst (λ n. AllEndBy n c.in_ok-read_outline.field-0) c.new-reader.ensures.len c.in_ok-read_outline.ensures.ends)

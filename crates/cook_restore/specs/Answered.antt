@@ -1,0 +1,34 @@
+-- The answer of an outline, by what its shelf tells.
+use Rattle.std.specs.Prelude.{◌≡◌, ℕ, ◌<◌, Result, Ok, Err}
+use Rattle.shelf_core.specs.Causes.{Rose}
+use Rattle.shelf_core.specs.declared.shelf.Shelf.{Ghosts}
+use Rattle.shelf_reader.specs.declared.error.ReadError.{ReadError}
+use Rattle.shelf_reader.specs.declared.error.ReadError.TheVariants as errors
+use Rattle.cook_restore.specs.declared.matroska_read.error.OutlineFault.{OutlineFault}
+use Rattle.cook_restore.specs.declared.matroska_read.error.OutlineFault.TheVariants as faults
+use Rattle.cook_restore.specs.declared.matroska_read.error.OutlineError.{OutlineError}
+use Rattle.cook_restore.specs.declared.matroska_read.error.OutlineError.TheVariants.{Shape, Failed, Short, NoMemory}
+
+-- the error of a reading, as that of an outline
+abbrev pub outline_error : ReadError OutlineFault → OutlineError
+outline_error (errors.Fault (faults.Shape place)) = Shape place
+outline_error (errors.Short now) = Short now
+outline_error errors.Failed = Failed
+outline_error errors.NoMemory = NoMemory
+
+-- What a refusal says of an outline of bytes that are known: a fault is its own, and the file doesn't end early.
+abbrev pub IsRefusal : {T : Type 0} → Result T OutlineFault → OutlineError → Type 0
+IsRefusal outline (Shape place) = outline ≡ Err (faults.Shape place)
+IsRefusal outline (Short now) = ⊥
+IsRefusal outline Failed = Unit {0}
+IsRefusal outline NoMemory = Unit {0}
+
+-- the shelf failed only where its count of faults rose, and the file ended early only at a place below the length
+abbrev pub StopsFor : ℕ → ℕ → ℕ → OutlineError → Type 0
+StopsFor len faults faults_now (Shape place) = Unit {0}
+StopsFor len faults faults_now (Short now) = now < len
+StopsFor len faults faults_now Failed = Rose faults faults_now
+StopsFor len faults faults_now NoMemory = Unit {0}
+
+abbrev pub OutlineStops : {S : Type 0} → Ghosts S → ℕ → S → S → OutlineError → Type 0
+OutlineStops g len old new = StopsFor len (g.faults old) (g.faults new)

@@ -1,0 +1,6 @@
+-- What is known of a file's bytes, readings of them, and what a reader of them keeps.
+pub mod Errors
+pub mod Keeping
+pub mod Readings
+pub mod Seen
+pub mod Walk
