@@ -5,12 +5,16 @@ use Rattle.range_coder.specs.Interval.{Decision, Interval, whole, part, renewed,
 use Rattle.range_coder.specs.Choices.{Choice, adapted, decided}
 use Rattle.range_coder.specs.Symbol.{choice, exponent_up_to, exponent_of, ones, exponent_choices, low_bits, symbol_choices, fresh_states}
 use Rattle.cook_bits.specs.Crc.{crc32_high_of}
-use Rattle.cook_bits.proofs.Fields.{length-bytes_high_first}
 use Rattle.range_coder.specs.DefaultTable.{default_one_states}
 use Rattle.range_coder.specs.Laws.{NarrowedIsJoined}
 use Rattle.ffv1_params.specs.Parameters.{stepped, flat}
 use Rattle.ffv1_params.specs.Record.{Field, number, single, table, unsigned_choices, run_choices, field_decisions, states_after_field, fields_decisions, record_decisions, bit_choices, with_parity, record_of, film_fields}
 use Rattle.ffv1_params.specs.Track.{Track, after_field, after_fields}
+
+-- the bytes of a number are as many as are asked for
+pub length-bytes_high_first : (count n : ℕ) → length (bytes_high_first count n) ≡ count
+length-bytes_high_first zero n = refl
+length-bytes_high_first (suc count) n = ap suc (length-bytes_high_first count n)
 
 -- ---- value by value
 

@@ -6,7 +6,7 @@ use Rattle.std.proofs.lemmas.Bool.{le-leb, ne_eqb, eqb-true}
 use Rattle.std.proofs.lemmas.List.{take_at}
 use Rattle.cook_bits.specs.Crc.{crc32_high_of}
 use Rattle.cook_bits.specs.Laws.{ParityLeavesZero}
-use Rattle.cook_bits.proofs.Fields.{length-bytes_high_first}
+use Rattle.ffv1_params.proofs.RecordLaws.{length-bytes_high_first}
 use Rattle.range_coder.specs.Interval.{coded}
 use Rattle.range_coder.specs.Laws.{CodedIsRead, CodedAreBytes, CodedBegins, OnStates}
 use Rattle.ffv1_params.specs.declared.error.ParamsWhy.{ParamsWhy}

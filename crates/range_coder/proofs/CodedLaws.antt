@@ -7,13 +7,12 @@ use Rattle.std.proofs.lemmas.List.Elements.{All-head, All-tail, All-cons, All-ni
 use Rattle.std.proofs.lemmas.Nat.{div_below}
 use Rattle.std.specs.Int.{byte_at, bytes_high_first}
 use Rattle.cook_bits.specs.Bits.{AreBytes}
-use Rattle.cook_bits.proofs.Fields.{length-bytes_high_first, are_bytes-bytes_high_first}
 use Rattle.range_coder.specs.Interval.{Decision, Interval, whole, narrow, narrowed, first_bytes, Inside, Reads, bytes_in, ending, coded}
 use Rattle.range_coder.specs.Table.{IsState}
 use Rattle.range_coder.specs.Reading.{Reader, ReadsOn}
 use Rattle.range_coder.specs.Laws.{OnStates, ReadsOneMore}
 use Rattle.range_coder.proofs.Intervals.{IsWide, whole_wide, narrow_wide, inside_narrow, one_narrow, in_part, power_more}
-use Rattle.range_coder.proofs.Numbers.{first_bytes-bytes, first_bytes-past}
+use Rattle.range_coder.proofs.Numbers.{length-bytes_high_first, are_bytes-bytes_high_first, first_bytes-bytes, first_bytes-past}
 
 -- parts of lists of which each element is so
 pub all_left : {X : Type 0} (P : X → Type 0) (xs ys : List X) → All P (xs ++ ys) → All P xs

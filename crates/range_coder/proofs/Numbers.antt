@@ -7,8 +7,22 @@ use Rattle.std.proofs.lemmas.List.{get_or_at, get_or_past, get_or-take, take_all
 use Rattle.std.proofs.lemmas.Bool.{cases_lt}
 use Rattle.std.proofs.lemmas.Nat.{div_below}
 use Rattle.std.specs.Int.{byte_at, bytes_high_first}
-use Rattle.cook_bits.proofs.Fields.{length-bytes_high_first}
+use Rattle.cook_bits.specs.Bits.{AreBytes}
 use Rattle.range_coder.specs.Interval.{first_bytes}
+
+-- the bytes of a number are as many as are asked for, and bytes
+pub length-bytes_high_first : (count n : ℕ) → length (bytes_high_first count n) ≡ count
+length-bytes_high_first zero n = refl
+length-bytes_high_first (suc count) n = ap suc (length-bytes_high_first count n)
+
+byte_small : (count n : ℕ) → byte_at count n < 256
+byte_small zero n = omega arith
+byte_small (suc count) n = omega arith
+
+pub are_bytes-bytes_high_first : (count n : ℕ) → AreBytes (bytes_high_first count n)
+are_bytes-bytes_high_first zero n i = omega arith
+are_bytes-bytes_high_first (suc count) n zero = byte_small count n
+are_bytes-bytes_high_first (suc count) n (suc i) = are_bytes-bytes_high_first count n i
 
 -- the bytes before a place tell it alone
 pub first_bytes-same : (n : ℕ) (xs ys : List ℕ) → ((k : ℕ) → k < n → slice_index xs k ≡ slice_index ys k) → first_bytes n xs ≡ first_bytes n ys

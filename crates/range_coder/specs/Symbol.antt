@@ -47,10 +47,18 @@ abbrev pub sign_choices : Bool → ℕ → Bool → List Choice
 sign_choices true exponent negative = choice (sign_slot exponent) negative ∷ []
 sign_choices false exponent negative = []
 
+-- what stands behind the exponent of a number
+abbrev pub rest_choices : ℕ → ℤ → Bool → List Choice
+rest_choices exponent value signed = low_bits exponent (unsigned_abs value) ++ sign_choices signed exponent (is_negative value)
+
 -- a number that isn't 0: its exponent, the bits below its highest one, its sign
 abbrev pub number_choices : ℕ → ℕ → Bool → Bool → List Choice
 number_choices exponent magnitude negative signed =
     choice 0 false ∷ [] ++ exponent_choices exponent ++ low_bits exponent magnitude ++ sign_choices signed exponent negative
+
+-- the same, by its magnitude
+abbrev pub magnitude_choices : ℕ → Bool → Bool → List Choice
+magnitude_choices magnitude negative signed = number_choices (exponent_of magnitude) magnitude negative signed
 
 -- the choices of a symbol: whether it is 0, and if not, the number
 unfoldable pub symbol_choices : ℤ → Bool → List Choice

@@ -4,7 +4,7 @@ ghost use Rattle.std.specs.Int.{w32, is_negative};
 ghost use Rattle.std.specs.Prelude.{◌≡◌, false, unsigned_abs, FitsSigned, ◌+◌, ◌*◌, ◌^◌, ◌<◌, ◌≤◌, ◌++◌, [], ◌∷◌, length, OnErr, IfOk};
 ghost use Rattle.range_coder.specs.Table.{IsClosed, AreLive};
 ghost use Rattle.range_coder.specs.Coding.{Gets};
-ghost use Rattle.range_coder.specs.Symbol.{IsCodable, symbol_choices, overlong_choices, exponent_choices, ones, low_bits, sign_choices};
+ghost use Rattle.range_coder.specs.Symbol.{IsCodable, symbol_choices, overlong_choices, exponent_choices, ones, low_bits, sign_choices, rest_choices};
 
 use crate::{BadSymbol, Decoder, Table};
 
@@ -49,7 +49,7 @@ fn get_rest(
     requires set { length set.old ≡ 32 }
     requires live { AreLive table.now set.old }
     requires exponent { exponent ≤ 30 }
-    ensures gets { Gets table.now decoder.old set.old decoder.new set.new (low_bits exponent (unsigned_abs result) ++ sign_choices signed exponent (is_negative result)) }
+    ensures gets { Gets table.now decoder.old set.old decoder.new set.new (rest_choices exponent result signed) }
     ensures low { 2 ^ exponent ≤ unsigned_abs result }
     ensures high { unsigned_abs result < 2 * 2 ^ exponent }
     ensures unsigned { signed ≡ false → is_negative result ≡ false }

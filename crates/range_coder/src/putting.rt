@@ -4,9 +4,8 @@
 ghost use Rattle.std.specs.Prelude.{◌≡◌, ◌+◌, ◌*◌, ◌<◌, ◌≤◌, ◌++◌, [], ◌∷◌, length, OnOk, OnErr};
 ghost use Rattle.range_coder.specs.Table.{IsClosed, AreLive};
 ghost use Rattle.range_coder.specs.Encoding.{IsWindow};
-ghost use Rattle.range_coder.specs.Coding.{Puts, PutsFront};
-ghost use Rattle.range_coder.specs.Held.{held};
-ghost use Rattle.range_coder.specs.Symbol.{IsCodable, symbol_choices, number_choices, exponent_of, exponent_choices, ones, low_bits, sign_choices};
+ghost use Rattle.range_coder.specs.Held.{PutsIn, FrontIn};
+ghost use Rattle.range_coder.specs.Symbol.{IsCodable, symbol_choices, magnitude_choices, exponent_of, exponent_choices, ones, low_bits, sign_choices};
 ghost use Rattle.range_coder.specs.Placing.{IsPlaced, ArePlaced, placed_symbol, placed_symbols};
 
 use crate::window::Window;
@@ -31,8 +30,8 @@ pub(crate) fn put_line(
     requires live { AreLive table.now states.old }
     requires placed { ArePlaced (length states.old) signed symbols.now }
     requires window { IsWindow bytes.old.items window.old.low window.old.range }
-    ensures ok { OnOk result (Puts table.now (held window.old bytes.old) states.old (held window.new bytes.new) states.new (placed_symbols signed symbols.now)) }
-    ensures err { OnErr result (PutsFront table.now (held window.old bytes.old) states.old (held window.new bytes.new) states.new (placed_symbols signed symbols.now)) }
+    ensures ok { OnOk result (PutsIn table.now window.old bytes.old states.old window.new bytes.new states.new (placed_symbols signed symbols.now)) }
+    ensures err { OnErr result (FrontIn table.now window.old bytes.old states.old window.new bytes.new states.new (placed_symbols signed symbols.now)) }
     ensures live { AreLive table.now states.new }
     ensures window { IsWindow bytes.new.items window.new.low window.new.range }
 {
@@ -55,8 +54,8 @@ fn put_placed(
     requires live { AreLive table.now states.old }
     requires placed { IsPlaced (length states.old) signed symbol }
     requires window { IsWindow bytes.old.items window.old.low window.old.range }
-    ensures ok { OnOk result (Puts table.now (held window.old bytes.old) states.old (held window.new bytes.new) states.new (placed_symbol signed symbol)) }
-    ensures err { OnErr result (PutsFront table.now (held window.old bytes.old) states.old (held window.new bytes.new) states.new (placed_symbol signed symbol)) }
+    ensures ok { OnOk result (PutsIn table.now window.old bytes.old states.old window.new bytes.new states.new (placed_symbol signed symbol)) }
+    ensures err { OnErr result (FrontIn table.now window.old bytes.old states.old window.new bytes.new states.new (placed_symbol signed symbol)) }
     ensures live { AreLive table.now states.new }
     ensures window { IsWindow bytes.new.items window.new.low window.new.range }
 {
@@ -79,8 +78,8 @@ pub(crate) fn put_value(
     requires live { AreLive table.now set.old }
     requires codable { IsCodable value signed }
     requires window { IsWindow bytes.old.items window.old.low window.old.range }
-    ensures ok { OnOk result (Puts table.now (held window.old bytes.old) set.old (held window.new bytes.new) set.new (symbol_choices value signed)) }
-    ensures err { OnErr result (PutsFront table.now (held window.old bytes.old) set.old (held window.new bytes.new) set.new (symbol_choices value signed)) }
+    ensures ok { OnOk result (PutsIn table.now window.old bytes.old set.old window.new bytes.new set.new (symbol_choices value signed)) }
+    ensures err { OnErr result (FrontIn table.now window.old bytes.old set.old window.new bytes.new set.new (symbol_choices value signed)) }
     ensures live { AreLive table.now set.new }
     ensures closed { IsClosed table.now }
     ensures window { IsWindow bytes.new.items window.new.low window.new.range }
@@ -107,8 +106,8 @@ fn put_number(
     requires live { AreLive table.now set.old }
     requires some { 0 < magnitude }
     requires window { IsWindow bytes.old.items window.old.low window.old.range }
-    ensures ok { OnOk result (Puts table.now (held window.old bytes.old) set.old (held window.new bytes.new) set.new (number_choices (exponent_of magnitude) magnitude negative signed)) }
-    ensures err { OnErr result (PutsFront table.now (held window.old bytes.old) set.old (held window.new bytes.new) set.new (number_choices (exponent_of magnitude) magnitude negative signed)) }
+    ensures ok { OnOk result (PutsIn table.now window.old bytes.old set.old window.new bytes.new set.new (magnitude_choices magnitude negative signed)) }
+    ensures err { OnErr result (FrontIn table.now window.old bytes.old set.old window.new bytes.new set.new (magnitude_choices magnitude negative signed)) }
     ensures live { AreLive table.now set.new }
     ensures closed { IsClosed table.now }
     ensures window { IsWindow bytes.new.items window.new.low window.new.range }
@@ -141,8 +140,8 @@ fn put_parts(
     requires exponent { exponent ≡ exponent_of magnitude }
     requires high { exponent < 32 }
     requires window { IsWindow bytes.old.items window.old.low window.old.range }
-    ensures ok { OnOk result (Puts table.now (held window.old bytes.old) set.old (held window.new bytes.new) set.new (number_choices (exponent_of magnitude) magnitude negative signed)) }
-    ensures err { OnErr result (PutsFront table.now (held window.old bytes.old) set.old (held window.new bytes.new) set.new (number_choices (exponent_of magnitude) magnitude negative signed)) }
+    ensures ok { OnOk result (PutsIn table.now window.old bytes.old set.old window.new bytes.new set.new (magnitude_choices magnitude negative signed)) }
+    ensures err { OnErr result (FrontIn table.now window.old bytes.old set.old window.new bytes.new set.new (magnitude_choices magnitude negative signed)) }
     ensures live { AreLive table.now set.new }
     ensures closed { IsClosed table.now }
     ensures window { IsWindow bytes.new.items window.new.low window.new.range }
@@ -177,8 +176,8 @@ fn put_exponent(
     requires live { AreLive table.now set.old }
     requires exponent { exponent < 32 }
     requires window { IsWindow bytes.old.items window.old.low window.old.range }
-    ensures ok { OnOk result (Puts table.now (held window.old bytes.old) set.old (held window.new bytes.new) set.new (exponent_choices exponent)) }
-    ensures err { OnErr result (PutsFront table.now (held window.old bytes.old) set.old (held window.new bytes.new) set.new (exponent_choices exponent)) }
+    ensures ok { OnOk result (PutsIn table.now window.old bytes.old set.old window.new bytes.new set.new (exponent_choices exponent)) }
+    ensures err { OnErr result (FrontIn table.now window.old bytes.old set.old window.new bytes.new set.new (exponent_choices exponent)) }
     ensures live { AreLive table.now set.new }
     ensures window { IsWindow bytes.new.items window.new.low window.new.range }
 {
@@ -200,8 +199,8 @@ fn put_ones(
     requires set { length set.old ≡ 32 }
     requires live { AreLive table.now set.old }
     requires window { IsWindow bytes.old.items window.old.low window.old.range }
-    ensures ok { OnOk result (Puts table.now (held window.old bytes.old) set.old (held window.new bytes.new) set.new (ones exponent)) }
-    ensures err { OnErr result (PutsFront table.now (held window.old bytes.old) set.old (held window.new bytes.new) set.new (ones exponent)) }
+    ensures ok { OnOk result (PutsIn table.now window.old bytes.old set.old window.new bytes.new set.new (ones exponent)) }
+    ensures err { OnErr result (FrontIn table.now window.old bytes.old set.old window.new bytes.new set.new (ones exponent)) }
     ensures live { AreLive table.now set.new }
     ensures window { IsWindow bytes.new.items window.new.low window.new.range }
 {
@@ -226,8 +225,8 @@ fn put_low_bits(
     requires live { AreLive table.now set.old }
     requires exponent { exponent < 32 }
     requires window { IsWindow bytes.old.items window.old.low window.old.range }
-    ensures ok { OnOk result (Puts table.now (held window.old bytes.old) set.old (held window.new bytes.new) set.new (low_bits exponent magnitude)) }
-    ensures err { OnErr result (PutsFront table.now (held window.old bytes.old) set.old (held window.new bytes.new) set.new (low_bits exponent magnitude)) }
+    ensures ok { OnOk result (PutsIn table.now window.old bytes.old set.old window.new bytes.new set.new (low_bits exponent magnitude)) }
+    ensures err { OnErr result (FrontIn table.now window.old bytes.old set.old window.new bytes.new set.new (low_bits exponent magnitude)) }
     ensures live { AreLive table.now set.new }
     ensures window { IsWindow bytes.new.items window.new.low window.new.range }
 {
@@ -257,8 +256,8 @@ fn put_sign(
     requires set { length set.old ≡ 32 }
     requires live { AreLive table.now set.old }
     requires window { IsWindow bytes.old.items window.old.low window.old.range }
-    ensures ok { OnOk result (Puts table.now (held window.old bytes.old) set.old (held window.new bytes.new) set.new (sign_choices signed exponent negative)) }
-    ensures err { OnErr result (PutsFront table.now (held window.old bytes.old) set.old (held window.new bytes.new) set.new (sign_choices signed exponent negative)) }
+    ensures ok { OnOk result (PutsIn table.now window.old bytes.old set.old window.new bytes.new set.new (sign_choices signed exponent negative)) }
+    ensures err { OnErr result (FrontIn table.now window.old bytes.old set.old window.new bytes.new set.new (sign_choices signed exponent negative)) }
     ensures live { AreLive table.now set.new }
     ensures window { IsWindow bytes.new.items window.new.low window.new.range }
 {

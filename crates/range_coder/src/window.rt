@@ -5,8 +5,7 @@ ghost use Rattle.std.specs.Prelude.{◌≡◌, ◌+◌, ◌-◌, ◌<◌, ◌≤
 ghost use Rattle.range_coder.specs.Interval.{part_of_one, narrow};
 ghost use Rattle.range_coder.specs.Table.{IsState, IsLive, IsClosed, AreLive, next_state};
 ghost use Rattle.range_coder.specs.Encoding.{IsWindow, spare_in};
-ghost use Rattle.range_coder.specs.Coding.{Puts, PutsFront};
-ghost use Rattle.range_coder.specs.Held.{held};
+ghost use Rattle.range_coder.specs.Held.{held, PutsIn, FrontIn};
 ghost use Rattle.range_coder.specs.Symbol.{choice};
 
 use crate::Table;
@@ -69,8 +68,8 @@ impl Window {
         requires slot { slot < length states.old }
         requires live { AreLive table.now states.old }
         requires window { IsWindow bytes.old.items self.old.low self.old.range }
-        ensures ok { OnOk result (Puts table.now (held self.old bytes.old) states.old (held self.new bytes.new) states.new (choice slot bit ∷ [])) }
-        ensures err { OnErr result (PutsFront table.now (held self.old bytes.old) states.old (held self.new bytes.new) states.new (choice slot bit ∷ [])) }
+        ensures ok { OnOk result (PutsIn table.now self.old bytes.old states.old self.new bytes.new states.new (choice slot bit ∷ [])) }
+        ensures err { OnErr result (FrontIn table.now self.old bytes.old states.old self.new bytes.new states.new (choice slot bit ∷ [])) }
         ensures live { AreLive table.now states.new }
         ensures closed { IsClosed table.now }
         ensures window { IsWindow bytes.new.items self.new.low self.new.range }
