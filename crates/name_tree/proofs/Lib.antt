@@ -1,0 +1,7 @@
+pub mod Hanging
+pub mod Orders
+pub mod Pieces
+pub mod Searches
+pub mod Spans
+pub mod Trees
+pub mod Walks

@@ -1,0 +1,8 @@
+use Rattle.std.proofs.Common.{length, ◌-◌, ◌≡◌, ◌≤◌, take}
+use Rattle.name_tree.proofs.search.shared.Given as goal
+
+abbrev pub invariant-loop-count : goal.invariant-loop-count
+invariant-loop-count l = record { left : l.count ≤ length l.left; right : l.count ≤ length l.right; same : take l.count l.left ≡ take l.count l.right }
+
+abbrev pub decreases-loop-count : goal.decreases-loop-count
+decreases-loop-count l = length l.left - l.count

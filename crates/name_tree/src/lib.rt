@@ -1,0 +1,10 @@
+//! The names of a directory's files as a tree linked by index: which name may be added, in which order they stand, and
+//! which folders are still to be made.
+#![tactic(auto)]
+
+mod error;
+mod node;
+mod search;
+mod texts;
+
+pub use error::NameError;
