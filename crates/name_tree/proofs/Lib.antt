@@ -1,6 +1,8 @@
+pub mod Free
 pub mod Hanging
 pub mod Orders
 pub mod Pieces
+pub mod Refusals
 pub mod Searches
 pub mod Spans
 pub mod Trees

@@ -65,3 +65,8 @@ pub record CanHang (names : List (List ℕ)) (nodes : List Node) (parent : ℕ) 
   pub absent : IsAbsent names nodes key
   pub no_file : (front : List ℕ) → key ≡ front ++ 47 ∷ [] → IsAbsent names nodes front
   pub no_folder : IsAbsent names nodes (key ++ 47 ∷ [])
+
+-- the next key on the way may be added
+abbrev pub IsFree : List (List ℕ) → List Node → List ℕ → ℕ → ℕ → Type 0
+IsFree names nodes name parent before = (piece rest : List ℕ) → IsPiece piece → name ≡ (key_at names nodes parent ++ piece) ++ rest
+    → (IsFolderKey piece ⊎ (rest ≡ [])) → CanHang names nodes parent (key_at names nodes parent ++ piece) before
