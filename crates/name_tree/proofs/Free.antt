@@ -12,7 +12,7 @@ use Rattle.name_tree.specs.Searching.{IsFound, IsPlace, IsOnWay, IsEnd, IsDeepes
 use Rattle.name_tree.proofs.Orders.{behind, inside, piece_ends, piece_some, folder_tail}
 use Rattle.name_tree.proofs.Trees.{LeadsTo, leads, begins}
 use Rattle.name_tree.proofs.Pieces.{one_piece}
-use Rattle.name_tree.proofs.Searches.{folder_joined, child_of, absent_child, way_step, way_rest}
+use Rattle.name_tree.proofs.Searches.{stands, folder_joined, child_of, absent_child, way_step, way_rest}
 use Rattle.name_tree.proofs.Refusals.{among, not_among, holds, holds_none, over, over_none, refused_exists, refused_under, refused_over, not_refused, plain_rest, plain_some, relative_plain, not_folder}
 
 ends_front : (d u : List ℕ) → EndsAtSlash (d ++ u) → EndsAtSlash d
@@ -170,13 +170,13 @@ module _ (names : List (List ℕ)) (nodes : List Node) (are : AreNodes names nod
           omega arith
 
       whole : name ≡ key_at names nodes p ++ (drop n.len (take end name) ++ drop end name)
-      whole = sym (take-append-drop end name) ∙ ap (λ (l : List ℕ). l ++ drop end name) (way_step names nodes are name p n end way ne is) ∙ append_assoc (key_at names nodes p) (drop n.len (take end name)) (drop end name)
+      whole = sym (take-append-drop end name) ∙ ap (λ (l : List ℕ). l ++ drop end name) (way_step names nodes (stands are) name p n end way ne is) ∙ append_assoc (key_at names nodes p) (drop n.len (take end name)) (drop end name)
 
       q_piece : IsPiece (drop n.len (take end name))
       q_piece = is_piece (drop n.len (take end name)) (drop end name) q_some is.2 (rest_plain (drop n.len (take end name) ++ drop end name) whole)
 
       step : take end name ≡ key_at names nodes p ++ drop n.len (take end name)
-      step = way_step names nodes are name p n end way ne is
+      step = way_step names nodes (stands are) name p n end way ne is
 
       step_folder : IsFolderKey (take end name)
       step_folder = subst IsFolderKey (sym step) (folder_joined (key_at names nodes p) (drop n.len (take end name)) q_some is.3)
@@ -263,7 +263,7 @@ module _ (names : List (List ℕ)) (nodes : List Node) (are : AreNodes names nod
 
     module _ (n : Node) (ne : n ≡ node_at nodes p) (is : IsEnd name n.len None) where
       rest_is : drop n.len name ≡ way.rest
-      rest_is = way_rest names nodes are name p n way ne way.rest way.is
+      rest_is = way_rest names nodes (stands are) name p n way ne way.rest way.is
 
       rest_piece : IsPiece way.rest
       rest_piece =
@@ -282,7 +282,7 @@ module _ (names : List (List ℕ)) (nodes : List Node) (are : AreNodes names nod
       absent none = subst (IsAbsent names nodes) (sym way.is) (absent_child names nodes are.tree p way.rest way.within way.folder rest_piece (λ j some found. none j some (subst (λ (l : List ℕ). IsFound names nodes p l j) (sym way.is) found)))
 
       no_stem : (d rest : List ℕ) → name ≡ key_at names nodes p ++ (d ++ 47 ∷ rest) → IsPiece d → (IsFolderKey d → ⊥) → IsAbsent names nodes (key_at names nodes p ++ d)
-      no_stem d rest e isp file = absurd (slash_inside d rest (subst EndsAtSlash (way_rest names nodes are name p n way ne (d ++ 47 ∷ rest) e) is.0) (λ f. sym (way_rest names nodes are name p n way ne (d ++ 47 ∷ rest) e) ∙ is.1 (subst IsFolderKey (sym (way_rest names nodes are name p n way ne (d ++ 47 ∷ rest) e)) f)))
+      no_stem d rest e isp file = absurd (slash_inside d rest (subst EndsAtSlash (way_rest names nodes (stands are) name p n way ne (d ++ 47 ∷ rest) e) is.0) (λ f. sym (way_rest names nodes (stands are) name p n way ne (d ++ 47 ∷ rest) e) ∙ is.1 (subst IsFolderKey (sym (way_rest names nodes (stands are) name p n way ne (d ++ 47 ∷ rest) e)) f)))
 
       pub over_folder : ((j : ℕ) → 0 < j → IsFound names nodes p name j → ⊥) → (j : ℕ) → 0 < j → IsFound names nodes p (name ++ 47 ∷ []) j → refusal_of names name ≡ Some OverFolder
       over_folder none j some found = refused_over names name relative (exists_none name (absent none)) (under_none no_stem) (over_held name j some found.within found.is)
@@ -303,7 +303,7 @@ module _ (names : List (List ℕ)) (nodes : List Node) (are : AreNodes names nod
       pub file_free : (before : ℕ) → ((j : ℕ) → 0 < j → IsFound names nodes p name j → ⊥) → ((j : ℕ) → 0 < j → IsFound names nodes p (name ++ 47 ∷ []) j → ⊥) → IsPlace names nodes p name before → IsFree names nodes name p before
       file_free before none clear place piece rest isp e or =
           let k = key_at names nodes p in
-          let r : drop n.len name ≡ piece ++ rest = way_rest names nodes are name p n way ne (piece ++ rest) (e ∙ append_assoc k piece rest) in
+          let r : drop n.len name ≡ piece ++ rest = way_rest names nodes (stands are) name p n way ne (piece ++ rest) (e ∙ append_assoc k piece rest) in
           let nothing : rest ≡ [] = elim or [ inl folder ↦ absurd (slash_end piece rest folder (piece_some piece isp) (subst EndsAtSlash r is.0) (λ f. sym r ∙ is.1 (subst IsFolderKey (sym r) f))) | inr none ↦ none ] in
           let there : name ≡ k ++ piece = e ∙ ap (λ (l : List ℕ). (k ++ piece) ++ l) nothing ∙ append-nil (k ++ piece) in
           subst (λ (l : List ℕ). CanHang names nodes p l before) there (record {

@@ -1,4 +1,5 @@
 pub mod Free
+pub mod Growing
 pub mod Hanging
 pub mod Orders
 pub mod Pieces

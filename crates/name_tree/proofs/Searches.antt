@@ -87,7 +87,16 @@ after_some nodes parent before lt = let no : (before == 0) ≡ false = grind (ar
 
 -- ---- lengths
 
-pub key_length : (names : List (List ℕ)) (nodes : List Node) → AreNodes names nodes → (i : ℕ) → i < length nodes → length (key_at names nodes i) ≡ (node_at nodes i).len
+-- what a search rests on
+pub record Stands (names : List (List ℕ)) (nodes : List Node) : Type 0 where
+  pub tree : IsTree (length nodes) (links_of names nodes)
+  pub keyed : AreKeyed names nodes
+  pub start : (node_at nodes 0).len ≡ 0
+
+pub stands : {names : List (List ℕ)} {nodes : List Node} → AreNodes names nodes → Stands names nodes
+stands are = record { tree = are.tree; keyed = are.keyed; start = are.start }
+
+pub key_length : (names : List (List ℕ)) (nodes : List Node) → Stands names nodes → (i : ℕ) → i < length nodes → length (key_at names nodes i) ≡ (node_at nodes i).len
 unfolding key_at
 key_length names nodes are i lt = elim (cases_eq i 0) [
     | inl zero_is ↦ rw zero_is (length-take-le (node_at nodes 0).len (get_or names (node_at nodes 0).name []) (let z = are.start in omega arith))
@@ -189,7 +198,7 @@ pub folder_joined : (q c : List ℕ) → c ≢ [] → IsFolderKey c → IsFolder
 folder_joined q [] some f = absurd (some refl)
 folder_joined q (y ∷ c) some f = folder_front q y c f
 
-module _ (names : List (List ℕ)) (nodes : List Node) (are : AreNodes names nodes) where
+module _ (names : List (List ℕ)) (nodes : List Node) (are : Stands names nodes) where
   pub way_root : (name : List ℕ) → 0 < length nodes → IsOnWay names nodes name 0
   way_root name lt = record {
       within = lt;
