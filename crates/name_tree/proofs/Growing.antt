@@ -382,3 +382,65 @@ module _ (names : List (List ℕ)) (nodes : List Node) (name : List ℕ) (number
       none_left : (l : List ℕ) → length l ≡ 0 → l ≡ []
       none_left [] e = refl
       none_left (x ∷ l) e = absurd (omega arith)
+
+-- ---- as the code has it
+
+pub grows_as : (names more : List (List ℕ)) (nodes next : List Node) (name : List ℕ) → AreNodes names nodes → (number parent before : ℕ) (n : Node) → more ≡ names ++ name ∷ [] → next ≡ nodes → number ≡ length names
+    → IsOnWay names nodes name parent → n ≡ node_at next parent → IsChildOrNone nodes parent before → IsFree names nodes name parent before → IsGrowing more next name number parent before n.len
+grows_as names more nodes next name are number parent before n e f h way is near free =
+    let len : n.len ≡ (node_at nodes parent).len = ap (λ (m : Node). m.len) is ∙ ap (λ (l : List Node). (node_at l parent).len) f in
+    subst (λ (l : List (List ℕ)). IsGrowing l next name number parent before n.len) (sym e)
+    (subst (λ (l : List Node). IsGrowing (names ++ name ∷ []) l name number parent before n.len) (sym f)
+    (subst (λ (k : ℕ). IsGrowing (names ++ name ∷ []) nodes name k parent before n.len) (sym h) (grows_from names nodes name are parent before n.len way len near free)))
+
+pub given_as : (names more : List (List ℕ)) (nodes next : List Node) (name : List ℕ) → AreNodes names nodes → more ≡ names ++ name ∷ [] → next ≡ nodes → given_of more next ≡ given_of names nodes
+given_as names more nodes next name are e f = ap (λ (l : List (List ℕ)). given_of l next) e ∙ ap (given_of (names ++ name ∷ [])) f ∙ longer_given names nodes name are
+
+pub near_within : (nodes : List Node) (parent before : ℕ) → parent < length nodes → IsChildOrNone nodes parent before → before < length nodes
+near_within nodes parent before pl near = elim (cases_eq before 0) [ inl e ↦ omega arith | inr ne ↦ (near (omega arith)).0 ]
+
+pub hung_as : (nodes next : List Node) (parent before name len : ℕ) → parent < length nodes → IsChildOrNone nodes parent before → next ≡ hung nodes parent before name len → IsHung nodes next parent before name len
+hung_as nodes next parent before name len pl near e = subst (λ (l : List Node). IsHung nodes l parent before name len) (sym e) (is_hung nodes parent before name len pl (near_within nodes parent before pl near))
+
+pub folder_step : (names : List (List ℕ)) (nodes next : List Node) (name : List ℕ) (number parent before start end at : ℕ) → is_relative_name name ≡ true → IsGrowing names nodes name number parent before start
+    → IsEnd name start (Some end) → next ≡ hung nodes parent before number end → at ≡ length nodes → IsGrowing names next name number at 0 end
+folder_step names nodes next name number parent before start end at relative g is e f =
+    subst (λ (k : ℕ). IsGrowing names next name number k 0 end) (sym f) (folder_grows names nodes name number parent before start relative g next end is (hung_as nodes next parent before number end g.way.within g.near e))
+
+pub file_step : (names more : List (List ℕ)) (nodes next olds : List Node) (name : List ℕ) (number parent before start : ℕ) → AreNodes names olds → more ≡ names ++ name ∷ [] → number ≡ length names
+    → is_relative_name name ≡ true → IsGrowing more nodes name number parent before start → IsEnd name start None → next ≡ hung nodes parent before number (length name) → AreNodes more next
+file_step names more nodes next olds name number parent before start are e f relative g is h =
+    let count : length more ≡ number + 1 = let l = length-append names (name ∷ []) in let m : length more ≡ length (names ++ name ∷ []) = ap length e in omega arith in
+    file_grows more nodes name number parent before start relative g next is (hung_as nodes next parent before number (length name) g.way.within g.near h) count
+        (subst (λ (l : List (List ℕ)). (m : ℕ) → m < length l → IsRelativeName (get_or l m [])) (sym e) (longer_relative names olds name are relative))
+
+-- ---- the root
+
+pub root_are : (names : List (List ℕ)) → AreNodes names [] → AreNodes names (root_node ∷ [])
+unfolding node_at key_at
+root_are names are = record {
+    tree = record {
+      root = refl;
+      up = λ i some lt. absurd (omega arith);
+      hangs = λ i some lt. absurd (omega arith);
+      folder = λ i some lt. absurd (omega arith);
+      one = λ i j a b e. omega arith;
+      apart = λ i j some a b e. absurd (omega arith);
+      first_is = λ i lt some. absurd (no_first i lt some);
+      first_least = λ i j some lt e. absurd (omega arith);
+      next_is = λ i some lt h. absurd (omega arith);
+      next_least = λ i j some lt h k e b. absurd (omega arith);
+    };
+    keyed = λ i some lt. absurd (omega arith);
+    start = refl;
+    leaf = λ i some lt f. absurd (omega arith);
+    full = λ i some lt f. absurd (omega arith);
+    placed = λ m lt. let p = are.placed m lt in let w : p.place < 0 = p.within in absurd (omega arith);
+    relative = are.relative;
+    ungiven = refl;
+    closed = λ i some lt f. absurd (omega arith);
+  }
+  where
+    no_first : (i : ℕ) → i < 1 → 0 < (get_or (root_node ∷ []) i root_node).first_child → ⊥
+    no_first zero lt h = omega arith
+    no_first (suc i) lt h = omega arith

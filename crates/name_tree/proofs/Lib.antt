@@ -7,4 +7,6 @@ pub mod Refusals
 pub mod Searches
 pub mod Spans
 pub mod Trees
+pub mod Sorting
+pub mod Walked
 pub mod Walks

@@ -169,3 +169,11 @@ relative_plain name e = both_right _ (list_all is_plain_segment (segments_of nam
 
 pub not_folder : (name : List ℕ) → list_all is_plain_segment (segments_of name) ≡ true → IsFolderKey name → ⊥
 not_folder name e f = (plain_some [] (plain_rest name [] f (ap (λ (l : List ℕ). list_all is_plain_segment (segments_of l)) (append-nil name) ∙ e))).0 refl
+
+both_left : (a b : Bool) → (a && b) ≡ true → a ≡ true
+both_left true b e = refl
+both_left false b e = e
+
+pub relative_short : (name : List ℕ) → is_relative_name name ≡ true → length name ≤ 1024
+unfolding is_relative_name
+relative_short name e = let h = both_left _ _ e in grind (arith, nat_tests)

@@ -28,7 +28,7 @@ refusal_of names name =
     else None
 
 -- what was answered is the refusal or its absence, unless memory ran out
-abbrev pub Answers : Result (Unit {0}) NameError → Option NameError → Type 0
+abbrev pub Answers : {X : Type 0} → Result X NameError → Option NameError → Type 0
 Answers (Ok _) refusal = refusal ≡ None
 Answers (Err NoMemory) refusal = Unit {0}
 Answers (Err why) refusal = refusal ≡ Some why

@@ -5,3 +5,4 @@ pub mod Tree
 pub use Rattle.cook_bits.specs.Names
 pub mod Nodes
 pub mod Searching
+pub mod Walking

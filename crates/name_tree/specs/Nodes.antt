@@ -93,3 +93,9 @@ given_name names node = if node.given then Some (take (node.len - 1) (get_or nam
 
 abbrev pub given_of : List (List ℕ) → List Node → List (List ℕ)
 given_of names nodes = filter_map (given_name names) nodes
+
+-- ---- the whole
+
+pub record IsNameTree (names : List (List ℕ)) (nodes : List Node) (last : ℕ) : Type 0 where
+  pub are : AreNodes names nodes
+  pub within : 0 < last → last < length nodes

@@ -23,12 +23,22 @@ pub enum NameError {
 }
 
 impl From<NoMemory> for NameError {
+    ghost use Rattle.std.specs.Prelude.{◌≡◌};
+    ghost use Rattle.name_tree.specs.declared.error.NameError.TheVariants as errors;
+
+    ghost from_gives = { λ _ result. result ≡ errors.NoMemory };
+
     fn from(_: NoMemory) -> NameError {
         NameError::NoMemory
     }
 }
 
 impl From<AllocError> for NameError {
+    ghost use Rattle.std.specs.Prelude.{◌≡◌};
+    ghost use Rattle.name_tree.specs.declared.error.NameError.TheVariants as errors;
+
+    ghost from_gives = { λ _ result. result ≡ errors.NoMemory };
+
     fn from(_: AllocError) -> NameError {
         NameError::NoMemory
     }

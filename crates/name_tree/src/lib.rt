@@ -3,8 +3,11 @@
 #![tactic(auto)]
 
 mod error;
+mod insertion;
 mod node;
 mod search;
 mod texts;
+mod tree;
 
 pub use error::NameError;
+pub use tree::NameTree;

@@ -1,0 +1,22 @@
+use Rattle.std.proofs.Common.{refl, ◌<◌, arith}
+use Rattle.name_tree.specs.Nodes.{node_at}
+use Rattle.name_tree.proofs.Free.{exists, over_folder, file_free, file_answer}
+use Rattle.name_tree.proofs.insertion.free_for_file.Goals as goal
+
+pub returns-then-file-ne0-clause-answer : goal.returns-then-file-ne0-clause-answer
+returns-then-file-ne0-clause-answer c =
+    let some : 0 < c.child-file.result.found = omega arith in
+    exists c.args.names.now c.args.nodes.now c.requires.nodes c.args.name.now c.requires.relative c.args.spot.parent c.requires.way c.requires.deepest (node_at c.args.nodes.now c.args.spot.parent) refl c.requires.end c.child-file.result.found some (c.child-file.ensures.found some)
+
+pub returns-then-folder-ne0-clause-answer : goal.returns-then-folder-ne0-clause-answer
+returns-then-folder-ne0-clause-answer c =
+    let some : 0 < c.folder_named-folder.result = omega arith in
+    over_folder c.args.names.now c.args.nodes.now c.requires.nodes c.args.name.now c.requires.relative c.args.spot.parent c.requires.way c.requires.deepest (node_at c.args.nodes.now c.args.spot.parent) refl c.requires.end (c.child-file.ensures.absent (omega arith)) c.folder_named-folder.result some (c.folder_named-folder.ensures.found some)
+
+pub returns-clause-free : goal.returns-clause-free
+returns-clause-free c =
+    file_free c.args.names.now c.args.nodes.now c.requires.nodes c.args.name.now c.requires.relative c.args.spot.parent c.requires.way c.requires.deepest (node_at c.args.nodes.now c.args.spot.parent) refl c.requires.end c.child-file.result.before (c.child-file.ensures.absent (omega arith)) (c.folder_named-folder.ensures.absent (omega arith)) c.child-file.ensures.place
+
+pub returns-clause-answer : goal.returns-clause-answer
+returns-clause-answer c =
+    file_answer c.args.names.now c.args.nodes.now c.requires.nodes c.args.name.now c.requires.relative c.args.spot.parent c.requires.way c.requires.deepest (node_at c.args.nodes.now c.args.spot.parent) refl c.requires.end (c.child-file.ensures.absent (omega arith)) (c.folder_named-folder.ensures.absent (omega arith))
