@@ -1,12 +1,13 @@
 -- A name is added place by place.
 use Rattle.std.proofs.Common.{◌≡◌, ◌≢◌, ℕ, zero, suc, ◌+◌, ◌-◌, ◌<◌, ◌≤◌, ◌⊎◌, Bool, true, false, List, [], ◌∷◌, ◌++◌, length, get_or, take, drop, refl, sym, ap, ◌∙◌, subst, arith, inl, inr, Option, Some, None, if◌then◌else◌, ◌==◌}
 use Rattle.std.proofs.lemmas.Bool.{cases_lt, cases_eq}
+use Rattle.std.proofs.lemmas.Bool.Decides.{nat_tests}
 use Rattle.std.proofs.lemmas.List.{append-nil, append_assoc, append_cancel_left, take-append-drop, length-append, length-drop, length-take-le, get_or_append_left, get_or_push, get_or_past, take_all}
 use Rattle.std.specs.List.{list_all, filter_map, cons_option}
 use Rattle.cook_bits.specs.Names.{is_plain_segment, segments_of, is_relative_name, IsRelativeName}
 use Rattle.name_tree.specs.declared.node.Node.{Node}
 use Rattle.name_tree.specs.Tree.{Below, AtMost, EndsAtSlash, IsPiece, IsFolderKey, IsChildKey, Links, IsTree}
-use Rattle.name_tree.specs.Nodes.{root_node, node_at, key_at, links_of, after_of, AreKeyed, HasPlace, AreNodes, new_node, hung, given_name, given_of}
+use Rattle.name_tree.specs.Nodes.{root_node, node_at, key_at, links_of, after_of, AreKeyed, HasPlace, AreNodes, IsNameTree, new_node, hung, given_name, given_of}
 use Rattle.name_tree.specs.Searching.{IsChildOrNone, IsBefore, IsPlace, IsOnWay, IsEnd, IsAbsent, IsHung, CanHang, IsFree}
 use Rattle.name_tree.proofs.Orders.{behind, piece_some}
 use Rattle.name_tree.proofs.Trees.{leads}
@@ -444,3 +445,38 @@ root_are names are = record {
     no_first : (i : ℕ) → i < 1 → 0 < (get_or (root_node ∷ []) i root_node).first_child → ⊥
     no_first zero lt h = omega arith
     no_first (suc i) lt h = omega arith
+
+pub rooted_are : (names : List (List ℕ)) (old new : List Node) → length old ≡ 0 → new ≡ old ++ root_node ∷ [] → AreNodes names old → AreNodes names new
+rooted_are names [] new len e are = subst (AreNodes names) (sym e) (root_are names are)
+rooted_are names (x ∷ old) new len e are = absurd (omega arith)
+
+pub none_left : (n : ℕ) (b : Bool) → b ≡ (n == 0) → b ≡ true → n ≡ 0
+none_left n b e t = let h : (n == 0) ≡ true = sym e ∙ t in grind (arith, nat_tests)
+
+no_nodes : AreNodes [] []
+unfolding node_at key_at
+no_nodes = record {
+    tree = record {
+      root = refl;
+      up = λ i some lt. absurd (omega arith);
+      hangs = λ i some lt. absurd (omega arith);
+      folder = λ i some lt. absurd (omega arith);
+      one = λ i j a b e. absurd (omega arith);
+      apart = λ i j some a b e. absurd (omega arith);
+      first_is = λ i lt some. absurd (omega arith);
+      first_least = λ i j some lt e. absurd (omega arith);
+      next_is = λ i some lt h. absurd (omega arith);
+      next_least = λ i j some lt h k e b. absurd (omega arith);
+    };
+    keyed = λ i some lt. absurd (omega arith);
+    start = refl;
+    leaf = λ i some lt f. absurd (omega arith);
+    full = λ i some lt f. absurd (omega arith);
+    placed = λ m lt. absurd (omega arith);
+    relative = λ m lt. absurd (omega arith);
+    ungiven = refl;
+    closed = λ i some lt f. absurd (omega arith);
+  }
+
+pub no_tree : (names : List (List ℕ)) (nodes : List Node) → names ≡ [] → nodes ≡ [] → IsNameTree names nodes 0
+no_tree names nodes e f = subst (λ (l : List (List ℕ)). IsNameTree l nodes 0) (sym e) (subst (λ (l : List Node). IsNameTree [] l 0) (sym f) (record { are = no_nodes; within = λ h. absurd (omega arith) }))

@@ -1,4 +1,5 @@
 -- Why a name is refused, by what the tree holds.
+use Rattle.std.specs.Prelude.{nat_le, nat_eq}
 use Rattle.std.proofs.Common.{◌≡◌, ◌≢◌, ℕ, zero, suc, ◌+◌, ◌-◌, ◌<◌, ◌≤◌, ◌⊎◌, Bool, true, false, not, ◌&&◌, ◌||◌, ◌==◌, if◌then◌else◌, List, [], ◌∷◌, ◌++◌, length, get_or, take, drop, refl, sym, ap, ◌∙◌, subst, arith, inl, inr, Option, Some, None}
 use Rattle.std.proofs.lemmas.Bool.Decides.{nat_tests}
 use Rattle.std.proofs.lemmas.List.{append-nil, append_assoc}
@@ -174,6 +175,9 @@ both_left : (a b : Bool) → (a && b) ≡ true → a ≡ true
 both_left true b e = refl
 both_left false b e = e
 
+within_from : (m n : ℕ) → nat_le m n ≡ true → m ≤ n
+within_from m n e = grind (arith, nat_tests)
+
 pub relative_short : (name : List ℕ) → is_relative_name name ≡ true → length name ≤ 1024
 unfolding is_relative_name
-relative_short name e = let h = both_left _ _ e in grind (arith, nat_tests)
+relative_short name e = let h : nat_le (length name) 1024 ≡ true = both_left (nat_le (length name) 1024) (not (list_any (nat_eq 0) name) && list_all is_plain_segment (segments_of name)) e in within_from (length name) 1024 h

@@ -8,6 +8,8 @@ mod node;
 mod search;
 mod texts;
 mod tree;
+mod walk;
 
 pub use error::NameError;
 pub use tree::NameTree;
+pub use walk::Walk;

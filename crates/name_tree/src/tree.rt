@@ -5,6 +5,7 @@ use crate::NameError;
 use crate::insertion::insert;
 use crate::node::Node;
 use crate::texts::Texts;
+use crate::walk::{Walk, walk_over};
 use cook_bits::is_relative_name;
 use std::alloc::Global;
 use std::marker::Model;
@@ -57,5 +58,12 @@ impl NameTree {
         }
         self.last = insert(&mut self.nodes, &mut self.names, self.last, name.as_bytes())?;
         Ok(())
+    }
+
+    /// The numbers of insertion, counted from 0, of the names, in byte order of names. It takes no memory.
+    pub fn walk(&self) -> Walk<'_>
+        ensures { result ≡ walk_of self.now.names }
+    {
+        walk_over(&self.names, &self.nodes)
     }
 }
