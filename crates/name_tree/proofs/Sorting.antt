@@ -60,7 +60,7 @@ all_placed k x [] b a = (b, tt)
 all_placed k x (y ∷ ys) b a = by (is_lt (slice_cmp nat_cmp x.1 y.1)) (all_placed k x ys b a.1)
   where
     by : (c : Bool) → AllAbove k (placed x ys) → AllAbove k (if c then x ∷ y ∷ ys else y ∷ placed x ys)
-    by true more = (b, a.0, a.1)
+    by true more = (b, (a.0, a.1))
     by false more = (a.0, more)
 
 placed_rising : (x : Numbered) (xs : List Numbered) → IsRising xs → ((e : Numbered) → IsMember e xs → e.1 ≢ x.1) → IsRising (placed x xs)
@@ -68,7 +68,7 @@ placed_rising x [] r apart = (tt, tt)
 placed_rising x (y ∷ ys) r apart = by (is_lt (slice_cmp nat_cmp x.1 y.1)) refl (placed_rising x ys r.1 (λ e m. apart e (inr m)))
   where
     by : (b : Bool) → is_lt (slice_cmp nat_cmp x.1 y.1) ≡ b → IsRising (placed x ys) → IsRising (if b then x ∷ y ∷ ys else y ∷ placed x ys)
-    by true e more = let low = lt_below x.1 y.1 true e refl in ((low, above_more x.1 y.1 ys low r.0), r.0, r.1)
+    by true e more = let low = lt_below x.1 y.1 true e refl in ((low, above_more x.1 y.1 ys low r.0), (r.0, r.1))
     by false e more = elim (not_lt x.1 y.1 e) [
         | inl same ↦ absurd (apart y (inl refl) same)
         | inr low ↦ (all_placed y.1 x ys low r.0, more)

@@ -189,3 +189,9 @@ module _ (names : List (List ℕ)) (nodes : List Node) (are : AreNodes names nod
       by : (names : List (List ℕ)) → ((m : ℕ) → m < length names → ⊥) → [] ≡ map (λ (e : Numbered). e.0) (in_order (enumerate_from 0 names))
       by [] f = refl
       by (x ∷ names) f = absurd (f 0 (omega arith))
+
+pub some_from : (n : ℕ) (b : Bool) → b ≡ (n == 0) → b ≡ false → 0 < n
+some_from n b e f = let h : (n == 0) ≡ false = sym e ∙ f in grind (arith, nat_tests)
+
+pub shorter_by : (x : ℕ) (xs ys : List ℕ) → ys ≡ x ∷ xs → length xs < length ys
+shorter_by x xs ys e = let l : length ys ≡ suc (length xs) = ap length e in omega arith
