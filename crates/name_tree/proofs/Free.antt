@@ -24,7 +24,7 @@ piece_front : (d u : List ℕ) → IsPiece (d ++ u) → d ≢ [] → IsPiece d
 piece_front [] u p some = absurd (some refl)
 piece_front (x ∷ d) u p some = (p.0, ends_front (x ∷ d) u p.1)
 
-slash_cut : (n : ℕ) (k : List ℕ) → length k ≡ suc n → IsFolderKey k → k ≡ take n k ++ 47 ∷ []
+pub slash_cut : (n : ℕ) (k : List ℕ) → length k ≡ suc n → IsFolderKey k → k ≡ take n k ++ 47 ∷ []
 slash_cut n [] len f = absurd (omega arith)
 slash_cut zero (x ∷ []) len f = λ i. f i ∷ []
 slash_cut (suc n) (x ∷ []) len f = absurd (omega arith)
@@ -62,7 +62,7 @@ nonempty : (d : List ℕ) → d ++ 47 ∷ [] ≢ []
 nonempty [] e = cc
 nonempty (x ∷ d) e = cc
 
-slash_end : (piece rest : List ℕ) → IsFolderKey piece → piece ≢ [] → EndsAtSlash (piece ++ rest) → (IsFolderKey (piece ++ rest) → piece ++ rest ≡ []) → ⊥
+pub slash_end : (piece rest : List ℕ) → IsFolderKey piece → piece ≢ [] → EndsAtSlash (piece ++ rest) → (IsFolderKey (piece ++ rest) → piece ++ rest ≡ []) → ⊥
 slash_end piece [] folder some ends none = some (sym (append-nil piece) ∙ none (subst IsFolderKey (sym (append-nil piece)) folder))
 slash_end piece (y ∷ rest) folder some ends none = inside piece (y ∷ rest) folder some (λ h. cc) ends
 

@@ -20,11 +20,11 @@ long_last : (nodes : List Node) (x : Node) → node_at (nodes ++ x ∷ []) (leng
 unfolding node_at
 long_last nodes x = get_or_push nodes x root_node (length nodes) refl
 
-set_there : (nodes : List Node) (x : Node) (i : ℕ) → i < length nodes → node_at (set nodes i x) i ≡ x
+pub set_there : (nodes : List Node) (x : Node) (i : ℕ) → i < length nodes → node_at (set nodes i x) i ≡ x
 unfolding node_at
 set_there nodes x i lt = get_or-set_same nodes i x root_node lt
 
-set_else : (nodes : List Node) (x : Node) (i j : ℕ) → j ≢ i → node_at (set nodes i x) j ≡ node_at nodes j
+pub set_else : (nodes : List Node) (x : Node) (i j : ℕ) → j ≢ i → node_at (set nodes i x) j ≡ node_at nodes j
 unfolding node_at
 set_else nodes x i j ne = get_or-set_other nodes i j x root_node ne
 

@@ -1,4 +1,5 @@
 pub mod Free
+pub mod Given
 pub mod Growing
 pub mod Hanging
 pub mod Orders

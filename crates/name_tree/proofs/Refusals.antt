@@ -181,3 +181,8 @@ within_from m n e = grind (arith, nat_tests)
 pub relative_short : (name : List ℕ) → is_relative_name name ≡ true → length name ≤ 1024
 unfolding is_relative_name
 relative_short name e = let h : nat_le (length name) 1024 ≡ true = both_left (nat_le (length name) 1024) (not (list_any (nat_eq 0) name) && list_all is_plain_segment (segments_of name)) e in within_from (length name) 1024 h
+
+-- a name that was added is held
+pub last_among : (names more : List (List ℕ)) (name : List ℕ) → more ≡ names ++ name ∷ [] → is_among more name ≡ true
+last_among [] more name e = ap (λ (l : List (List ℕ)). is_among l name) e ∙ ap (λ (b : Bool). b || false) (same_name name name refl)
+last_among (x ∷ names) more name e = ap (λ (l : List (List ℕ)). is_among l name) e ∙ ap (λ (b : Bool). is_same_name name x || b) (last_among names (names ++ name ∷ []) name refl) ∙ or_right (is_same_name name x)

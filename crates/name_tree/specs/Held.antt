@@ -62,3 +62,8 @@ first_left given (folder ∷ folders) = if is_among given folder then first_left
 -- the shortest proper folder of the name that was not given
 unfoldable pub folder_left : List (List ℕ) → List ℕ → Option (List ℕ)
 folder_left given name = first_left given (proper_folders_of name)
+
+-- the folders that were given, and this one
+abbrev pub WithFolder : List (List ℕ) → List (List ℕ) → Option (List ℕ) → Type 0
+WithFolder before after None = after ≡ before
+WithFolder before after (Some folder) = (name : List ℕ) → is_among after name ≡ (is_same_name name folder || is_among before name)

@@ -6,3 +6,4 @@ pub use Rattle.cook_bits.specs.Names
 pub mod Nodes
 pub mod Searching
 pub mod Walking
+pub mod Giving

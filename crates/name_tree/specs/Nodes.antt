@@ -88,6 +88,10 @@ hung nodes parent before name len = linked (nodes ++ new_node nodes parent befor
 
 -- ---- the folders that were given
 
+-- the place is counted as given
+abbrev pub with_given : List Node → ℕ → List Node
+with_given nodes at = slice_set nodes at (record (node_at nodes at) { given = true })
+
 abbrev pub given_name : List (List ℕ) → Node → Option (List ℕ)
 given_name names node = if node.given then Some (take (node.len - 1) (get_or names node.name [])) else None
 

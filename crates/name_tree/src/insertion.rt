@@ -1,7 +1,7 @@
 // Where a name would stand in a tree, why it is refused, and its places.
 ghost use Rattle.std.specs.Prelude.{◌≡◌, ℕ, List, true, false, ◌+◌, ◌<◌, ◌≤◌, ◌^◌, ◌∷◌, [], ◌++◌, length, take, vec_len, IfOk, OnOk, OnErr, Some, None};
 ghost use Rattle.cook_bits.specs.Names.{is_relative_name};
-ghost use Rattle.name_tree.specs.Held.{Answers, refusal_of};
+ghost use Rattle.name_tree.specs.Held.{Answers, refusal_of, is_among};
 ghost use Rattle.name_tree.specs.Tree.{IsTree};
 ghost use Rattle.name_tree.specs.Nodes.{node_at, links_of, AreKeyed, AreNodes, IsNameTree, given_of};
 ghost use Rattle.name_tree.specs.Searching.{IsChildOrNone, IsFound, IsOnWay, IsEnd, IsDeepest, IsFree};
@@ -169,6 +169,7 @@ pub(crate) fn insert(nodes: &mut Vec<Node>, names: &mut Texts, last: u32, name: 
     ensures kept { OnErr result (IsNameTree names.new nodes.new.items last) }
     ensures answer { Answers result (refusal_of names.old name.now) }
     ensures ok { OnOk result (names.new ≡ names.old ++ name.now ∷ []) }
+    ensures held { OnOk result (is_among names.new name.now ≡ true) }
     ensures err { OnErr result (names.new ≡ names.old) }
     ensures given { given_of names.new nodes.new.items ≡ given_of names.old nodes.old.items }
 {

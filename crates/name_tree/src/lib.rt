@@ -3,9 +3,11 @@
 #![tactic(auto)]
 
 mod error;
+mod folders;
 mod insertion;
 mod node;
 mod search;
+mod sharing;
 mod texts;
 mod tree;
 mod walk;

@@ -144,7 +144,7 @@ pub(crate) struct Spot {
 }
 
 // The deepest folder of the name among the folders of the place `last`, which ends the name of a file or is 0.
-fn climbed(nodes: &[Node], names: &Texts, last: u32, name: &[u8]) -> Spot
+pub(crate) fn climbed(nodes: &[Node], names: &Texts, last: u32, name: &[u8]) -> Spot
     requires nodes { AreNodes names.now nodes.now }
     requires within { last < length nodes.now }
     ensures way { IsOnWay names.now nodes.now name.now result.parent }

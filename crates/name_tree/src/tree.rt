@@ -1,7 +1,9 @@
-ghost use Rattle.std.specs.Prelude.{◌≡◌, ◌++◌, ◌∷◌, [], OnOk, OnErr};
-ghost use Rattle.name_tree.specs.Held.{Answers, refusal_of, walk_of};
+ghost use Rattle.std.specs.Prelude.{◌≡◌, ◌++◌, ◌∷◌, [], true, length, OnOk, OnErr};
+ghost use Rattle.std.specs.Option.{option_map};
+ghost use Rattle.name_tree.specs.Held.{Answers, refusal_of, walk_of, is_among, folder_left, WithFolder};
 
 use crate::NameError;
+use crate::folders::give;
 use crate::insertion::insert;
 use crate::node::Node;
 use crate::texts::Texts;
@@ -50,6 +52,7 @@ impl NameTree {
     pub fn insert(&mut self, name: &str) -> Result<(), NameError>
         ensures answer { Answers result (refusal_of self.old.names name.now) }
         ensures ok { OnOk result (self.new.names ≡ self.old.names ++ name.now ∷ []) }
+        ensures held { OnOk result (is_among self.new.names name.now ≡ true) }
         ensures err { OnErr result (self.new.names ≡ self.old.names) }
         ensures given { self.new.given ≡ self.old.given }
     {
@@ -65,5 +68,18 @@ impl NameTree {
         ensures { result ≡ walk_of self.now.names }
     {
         walk_over(&self.names, &self.nodes)
+    }
+
+    /// The length of the shortest proper folder of the name that was not given before, which is then counted as given.
+    /// `None` exactly where there is none. The name is one that is held. It takes no memory.
+    pub fn next_folder(&mut self, name: &str) -> Option<usize>
+        requires { is_among self.old.names name.now ≡ true }
+        ensures length { result ≡ option_map length (folder_left self.old.given name.now) }
+        ensures given { WithFolder self.old.given self.new.given (folder_left self.old.given name.now) }
+        ensures names { self.new.names ≡ self.old.names }
+    {
+        let ahead = give(&mut self.nodes, &self.names, self.last, name.as_bytes());
+        self.last = ahead.place;
+        ahead.len
     }
 }
