@@ -3,6 +3,7 @@
 use crate::bits::BitsCase;
 use crate::coder::CoderCase;
 use crate::dpx::DpxCase;
+use crate::names::NamesCase;
 use crate::params::ParamsCase;
 use crate::runs::RunsCase;
 use crate::stop::Stop;
@@ -16,6 +17,7 @@ enum Case {
     Params(ParamsCase),
     Dpx(DpxCase),
     Runs(RunsCase),
+    Names(NamesCase),
 }
 
 // The case that the words say.
@@ -35,6 +37,9 @@ fn read(alloc: Global, words: &[&str]) -> Result<Case, Stop> {
     if let Some(case) = RunsCase::read(alloc, words)? {
         return Ok(Case::Runs(case));
     }
+    if let Some(case) = NamesCase::read(alloc, words)? {
+        return Ok(Case::Names(case));
+    }
     Err(Stop::Unreadable)
 }
 
@@ -46,6 +51,7 @@ fn answer(alloc: Global, line: &str) -> Result<String, Stop> {
         Case::Params(case) => case.answer(alloc),
         Case::Dpx(case) => case.answer(alloc),
         Case::Runs(case) => case.answer(alloc),
+        Case::Names(case) => case.answer(alloc),
     }
 }
 

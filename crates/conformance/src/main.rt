@@ -6,6 +6,7 @@ mod bits;
 mod case;
 mod coder;
 mod dpx;
+mod names;
 mod params;
 mod parse;
 mod runs;

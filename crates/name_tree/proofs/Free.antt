@@ -1,16 +1,16 @@
 -- What the search for a name shows: why it is refused, or that it may be added.
-use Rattle.std.proofs.Common.{◌≡◌, ◌≢◌, ℕ, zero, suc, ◌+◌, ◌-◌, ◌<◌, ◌≤◌, ◌⊎◌, Bool, true, false, List, [], ◌∷◌, ◌++◌, length, get_or, take, drop, refl, sym, ap, ◌∙◌, subst, arith, inl, inr, Option, Some, None}
+use Rattle.std.proofs.Common.{◌≡◌, ◌≢◌, ℕ, zero, suc, ◌-◌, ◌<◌, ◌≤◌, true, false, List, [], ◌∷◌, ◌++◌, length, get_or, take, drop, refl, sym, ap, ◌∙◌, subst, arith, inl, inr, Some, None}
 use Rattle.std.proofs.lemmas.List.{append-nil, append_assoc, append_cancel_left, append_cancel_right, take-append-drop, take-take, length-take-le, length-drop}
 use Rattle.std.specs.List.{list_all}
 use Rattle.cook_bits.specs.Names.{is_plain_segment, segments_of, is_relative_name, holds_folder_of}
 use Rattle.name_tree.specs.declared.node.Node.{Node}
-use Rattle.name_tree.specs.declared.error.NameError.TheVariants.{Bad, Exists, UnderFile, OverFolder, NoMemory}
+use Rattle.name_tree.specs.declared.error.NameError.TheVariants.{Exists, UnderFile, OverFolder}
 use Rattle.name_tree.specs.Held.{is_among, is_folder_among, refusal_of}
 use Rattle.name_tree.specs.Tree.{EndsAtSlash, IsPiece, IsFolderKey}
-use Rattle.name_tree.specs.Nodes.{node_at, key_at, links_of, HasPlace, AreNodes}
+use Rattle.name_tree.specs.Nodes.{node_at, key_at, HasPlace, AreNodes}
 use Rattle.name_tree.specs.Searching.{IsFound, IsPlace, IsOnWay, IsEnd, IsDeepest, IsAbsent, CanHang, IsFree}
 use Rattle.name_tree.proofs.Orders.{behind, inside, piece_ends, piece_some, folder_tail}
-use Rattle.name_tree.proofs.Trees.{LeadsTo, leads, begins}
+use Rattle.name_tree.proofs.Trees.{leads, begins}
 use Rattle.name_tree.proofs.Pieces.{one_piece}
 use Rattle.name_tree.proofs.Searches.{stands, folder_joined, child_of, absent_child, way_step, way_rest}
 use Rattle.name_tree.proofs.Refusals.{among, not_among, holds, holds_none, over, over_none, refused_exists, refused_under, refused_over, not_refused, plain_rest, plain_some, relative_plain, not_folder}
@@ -105,7 +105,7 @@ module _ (names : List (List ℕ)) (nodes : List Node) (are : AreNodes names nod
   pub over_held : (name : List ℕ) (j : ℕ) → 0 < j → j < length nodes → key_at names nodes j ≡ name ++ 47 ∷ [] → is_folder_among names name ≡ true
   over_held name j some jl e =
       over names name (node_at nodes j).name (drop (node_at nodes j).len (get_or names (node_at nodes j).name [])) (are.keyed j some jl).0
-          (name_of j some jl ∙ ap (λ (k : List ℕ). k ++ drop (node_at nodes j).len (get_or names (node_at nodes j).name [])) e)
+      (name_of j some jl ∙ ap (λ (k : List ℕ). k ++ drop (node_at nodes j).len (get_or names (node_at nodes j).name [])) e)
 
   module _ (name : List ℕ) (relative : is_relative_name name ≡ true) (p : ℕ) (way : IsOnWay names nodes name p) (deep : IsDeepest names nodes name p) where
     plain : list_all is_plain_segment (segments_of name) ≡ true
@@ -127,11 +127,11 @@ module _ (names : List (List ℕ)) (nodes : List Node) (are : AreNodes names nod
               let b = begins are.tree (λ i. Unit {0}) (λ i a b c. tt) (suc p) p (z ++ 47 ∷ []) w.0 (omega arith) way.within (folder_joined z (47 ∷ []) (λ h. cc) refl) w.1 tt in
               are.tree.apart at.place b.0 at.some at.within b.1 (b.2 ∙ ap (λ (l : List ℕ). l ++ 47 ∷ []) (sym at.is))
           | inr w ↦ elim (behind z (47 ∷ []) k w.0 w.1) [
-              | inl ([], f, g) ↦ file_key m lt (subst IsFolderKey (f ∙ append-nil z) way.folder)
-              | inl (x ∷ d, f, g) ↦ are.tree.apart at.place p at.some at.within way.within (f ∙ ap (λ (l : List ℕ). z ++ l) (one_byte x d w.0 g) ∙ ap (λ (l : List ℕ). l ++ 47 ∷ []) (sym at.is))
-              | inr ([], f, g) ↦ file_key m lt (subst IsFolderKey (sym (f ∙ append-nil k)) way.folder)
-              | inr (x ∷ d, f, g) ↦ deeper m lt at rest (x ∷ d) f (λ h. cc) e
-            ]
+            | inl ([], f, g) ↦ file_key m lt (subst IsFolderKey (f ∙ append-nil z) way.folder)
+            | inl (x ∷ d, f, g) ↦ are.tree.apart at.place p at.some at.within way.within (f ∙ ap (λ (l : List ℕ). z ++ l) (one_byte x d w.0 g) ∙ ap (λ (l : List ℕ). l ++ 47 ∷ []) (sym at.is))
+            | inr ([], f, g) ↦ file_key m lt (subst IsFolderKey (sym (f ∙ append-nil k)) way.folder)
+            | inr (x ∷ d, f, g) ↦ deeper m lt at rest (x ∷ d) f (λ h. cc) e
+          ]
         ])
       where
         deeper : (m : ℕ) → m < length names → (at : HasPlace names nodes m) (rest d : List ℕ) → get_or names m [] ≡ key_at names nodes p ++ d → d ≢ [] → name ≡ (get_or names m [] ++ 47 ∷ []) ++ rest → ⊥
@@ -229,6 +229,7 @@ module _ (names : List (List ℕ)) (nodes : List Node) (are : AreNodes names nod
         where
           q_front : (q : List ℕ) → q ≡ 47 ∷ [] → IsPiece q → ⊥
           q_front q e isp = (subst IsPiece e isp).0 refl
+
           short : (x : ℕ) (d q : List ℕ) → 47 ∷ [] ≡ x ∷ d ++ q → q ≡ []
           short x [] q e = cc
           short x (y ∷ d) q e = cc
@@ -239,9 +240,9 @@ module _ (names : List (List ℕ)) (nodes : List Node) (are : AreNodes names nod
           let q = drop n.len (take end name) in
           let cut : piece ++ rest ≡ q ++ drop end name = append_cancel_left k (piece ++ rest) (q ++ drop end name) (sym (append_assoc k piece rest) ∙ sym e ∙ whole) in
           let same : piece ≡ q = elim or [
-              | inl folder ↦ one_piece piece q rest (drop end name) (piece_ends piece isp) is.2 folder is.3 (piece_some piece isp) q_some cut
-              | inr nothing ↦ absurd (file_end k q (drop end name) piece isp (λ f. not_folder name plain (subst IsFolderKey (sym whole) f)) is.3 q_some (sym (append-nil piece) ∙ ap (λ (l : List ℕ). piece ++ l) (sym nothing) ∙ cut))
-            ] in
+            | inl folder ↦ one_piece piece q rest (drop end name) (piece_ends piece isp) is.2 folder is.3 (piece_some piece isp) q_some cut
+            | inr nothing ↦ absurd (file_end k q (drop end name) piece isp (λ f. not_folder name plain (subst IsFolderKey (sym whole) f)) is.3 q_some (sym (append-nil piece) ∙ ap (λ (l : List ℕ). piece ++ l) (sym nothing) ∙ cut))
+          ] in
           let there : take end name ≡ k ++ piece = step ∙ ap (λ (l : List ℕ). k ++ l) (sym same) in
           subst (λ (l : List ℕ). CanHang names nodes p l before) there (record {
             place = place;
@@ -292,7 +293,7 @@ module _ (names : List (List ℕ)) (nodes : List Node) (are : AreNodes names nod
           let k = key_at names nodes p in
           let e : name ++ 47 ∷ [] ≡ k ++ (way.rest ++ 47 ∷ []) = ap (λ (l : List ℕ). l ++ 47 ∷ []) way.is ∙ append_assoc k way.rest (47 ∷ []) in
           subst (IsAbsent names nodes) (sym e) (absent_child names nodes are.tree p (way.rest ++ 47 ∷ []) way.within way.folder (slashed_piece way.rest rest_piece rest_file)
-              (λ j some found. none j some (subst (λ (l : List ℕ). IsFound names nodes p l j) (sym e) found)))
+          (λ j some found. none j some (subst (λ (l : List ℕ). IsFound names nodes p l j) (sym e) found)))
         where
           rest_file : IsFolderKey way.rest → ⊥
           rest_file f = piece_some way.rest rest_piece (sym rest_is ∙ is.1 (subst IsFolderKey (sym rest_is) f))

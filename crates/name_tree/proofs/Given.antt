@@ -1,21 +1,21 @@
 -- The folders that were given, and the first that was not.
-use Rattle.std.proofs.Common.{◌≡◌, ◌≢◌, ℕ, zero, suc, ◌+◌, ◌-◌, ◌<◌, ◌≤◌, ◌⊎◌, Bool, true, false, not, ◌||◌, ◌==◌, if◌then◌else◌, List, [], ◌∷◌, ◌++◌, length, get_or, set, take, drop, refl, sym, ap, ◌∙◌, subst, arith, inl, inr, Option, Some, None}
+use Rattle.std.proofs.Common.{◌≡◌, ◌≢◌, ℕ, zero, suc, ◌-◌, ◌<◌, ◌≤◌, ◌⊎◌, Bool, true, false, not, ◌||◌, ◌==◌, if◌then◌else◌, List, [], ◌∷◌, ◌++◌, length, get_or, take, drop, refl, sym, ap, ◌∙◌, subst, arith, inl, inr, Option, Some, None}
 use Rattle.std.specs.Option.{option_map}
-use Rattle.std.proofs.lemmas.Bool.{cases_lt, cases_eq}
+use Rattle.std.proofs.lemmas.Bool.{cases_eq}
 use Rattle.std.proofs.lemmas.Bool.Decides.{nat_tests}
-use Rattle.std.proofs.lemmas.List.{append-nil, append_assoc, append_cancel_left, append_cancel_right, take-append-drop, take-take, length-append, length-take-le, length-drop, length-set, take_at}
-use Rattle.std.specs.List.{list_any, list_all, filter_map, cons_option}
+use Rattle.std.proofs.lemmas.List.{append-nil, append_assoc, append_cancel_right, take-append-drop, take-take, length-append, length-take-le, length-drop, length-set, take_at}
+use Rattle.std.specs.List.{list_all, filter_map, cons_option}
 use Rattle.std.specs.Cmp.Lexicographic.{bytes_decides}
 use Rattle.cook_bits.specs.Names.{is_same_name, is_plain_segment, segments_of, is_relative_name, each_with_first, proper_folders_of}
 use Rattle.name_tree.specs.declared.node.Node.{Node}
-use Rattle.name_tree.specs.Tree.{EndsAtSlash, IsPiece, IsFolderKey, IsTree, Links}
-use Rattle.name_tree.specs.Nodes.{root_node, node_at, key_at, links_of, HasPlace, AreNodes, given_name, given_of, with_given}
+use Rattle.name_tree.specs.Tree.{EndsAtSlash, IsPiece, IsFolderKey, IsTree}
+use Rattle.name_tree.specs.Nodes.{root_node, node_at, key_at, links_of, AreNodes, given_name, given_of, with_given}
 use Rattle.name_tree.specs.Searching.{IsFound, IsOnWay, IsEnd}
 use Rattle.name_tree.specs.Held.{is_among, first_left, folder_left, WithFolder}
 use Rattle.name_tree.specs.Giving.{IsLeft, IsAhead, IsGivenTo}
-use Rattle.name_tree.proofs.Orders.{behind, inside, piece_ends, folder_tail}
+use Rattle.name_tree.proofs.Orders.{behind, inside, folder_tail}
 use Rattle.name_tree.proofs.Trees.{begins}
-use Rattle.name_tree.proofs.Searches.{stands, key_length, folder_joined, child_of, way_step, way_rest}
+use Rattle.name_tree.proofs.Searches.{stands, folder_joined, child_of, way_step, way_rest}
 use Rattle.name_tree.proofs.Hanging.{set_there, set_else}
 use Rattle.name_tree.proofs.Refusals.{same_name, plain_rest, relative_plain}
 use Rattle.name_tree.proofs.Free.{slash_cut, stem_is, slash_end, is_piece}
@@ -32,9 +32,9 @@ either_true false b e = inr e
 pub among_out : (names : List (List ℕ)) (name : List ℕ) → is_among names name ≡ true → (m : ℕ) × (m < length names) × (get_or names m [] ≡ name)
 among_out [] name e = cc
 among_out (x ∷ names) name e = elim (either_true (is_same_name name x) (is_among names name) e) [
-    | inl here ↦ (0, omega arith, sym (is_it name x true here refl))
-    | inr there ↦ let w = among_out names name there in let lt = w.1 in (suc w.0, omega arith, w.2)
-  ]
+  | inl here ↦ (0, omega arith, sym (is_it name x true here refl))
+  | inr there ↦ let w = among_out names name there in let lt = w.1 in (suc w.0, omega arith, w.2)
+]
 
 or_true : (a : Bool) → (a || true) ≡ true
 or_true true = refl
@@ -64,9 +64,9 @@ kept_out f (x ∷ nodes) name e = by (f x) refl e (kept_out f nodes name)
         → (i : ℕ) × (i < length (x ∷ nodes)) × (f (get_or (x ∷ nodes) i root_node) ≡ Some name)
     by None h e rest = let w = rest e in let lt = w.1 in (suc w.0, omega arith, w.2)
     by (Some y) h e rest = elim (either_true (is_same_name name y) (is_among (filter_map f nodes) name) e) [
-        | inl here ↦ (0, omega arith, h ∙ ap (λ (l : List ℕ). Some l) (sym (is_it name y true here refl)))
-        | inr there ↦ let w = rest there in let lt = w.1 in (suc w.0, omega arith, w.2)
-      ]
+      | inl here ↦ (0, omega arith, h ∙ ap (λ (l : List ℕ). Some l) (sym (is_it name y true here refl)))
+      | inr there ↦ let w = rest there in let lt = w.1 in (suc w.0, omega arith, w.2)
+    ]
 
 given_some : (b : Bool) (x name : List ℕ) → (if b then Some x else None) ≡ Some name → (b ≡ true) × (x ≡ name)
 given_some true x name e = (refl, cc)
@@ -154,6 +154,7 @@ module _ (names : List (List ℕ)) (nodes : List Node) (are : AreNodes names nod
     where
       filled : (n : ℕ) → (n ≡ 0 → ⊥) → 0 < n
       filled n f = omega arith
+
       filled_key : (i : ℕ) → 0 < i → i < length nodes → key_at names nodes i ≢ []
       filled_key i some lt e =
           let zl : 0 < length nodes = omega arith in
@@ -162,9 +163,9 @@ module _ (names : List (List ℕ)) (nodes : List Node) (are : AreNodes names nod
 
   some_given : (i : ℕ) → (node_at nodes i).given ≡ true → 0 < i
   some_given i given = elim (cases_eq i 0) [
-      | inl z ↦ let no : true ≡ false = sym given ∙ ap (λ (k : ℕ). (node_at nodes k).given) z ∙ are.ungiven in cc
-      | inr ne ↦ omega arith
-    ]
+    | inl z ↦ let no : true ≡ false = sym given ∙ ap (λ (k : ℕ). (node_at nodes k).given) z ∙ are.ungiven in cc
+    | inr ne ↦ omega arith
+  ]
 
   pub given_in : (i : ℕ) (folder : List ℕ) → i < length nodes → (node_at nodes i).given ≡ true → key_at names nodes i ≡ folder ++ 47 ∷ [] → is_among (given_of names nodes) folder ≡ true
   unfolding node_at
@@ -191,11 +192,12 @@ module _ (names : List (List ℕ)) (nodes : List Node) (are : AreNodes names nod
       not_nil : (f : List ℕ) → f ++ 47 ∷ [] ≡ [] → ⊥
       not_nil [] e = cc
       not_nil (x ∷ f) e = cc
+
       nonzero : (i : ℕ) → key_at names nodes i ≡ front ++ 47 ∷ [] → 0 < i
       nonzero i k = elim (cases_eq i 0) [
-          | inl z ↦ absurd (not_nil front (sym k ∙ ap (key_at names nodes) z ∙ are.tree.root))
-          | inr ne ↦ omega arith
-        ]
+        | inl z ↦ absurd (not_nil front (sym k ∙ ap (key_at names nodes) z ∙ are.tree.root))
+        | inr ne ↦ omega arith
+      ]
 
   module _ (name : List ℕ) (p : ℕ) (n : Node) (way : IsOnWay names nodes name p) (ne : n ≡ node_at nodes p) (given : IsGivenTo nodes p) where
     q_some : (end : ℕ) → IsEnd name n.len (Some end) → drop n.len (take end name) ≢ []
@@ -239,14 +241,14 @@ module _ (names : List (List ℕ)) (nodes : List Node) (are : AreNodes names nod
         let f = take (end - 1) name in
         let whole : name ≡ (f ++ 47 ∷ []) ++ drop end name = sym (take-append-drop end name) ∙ ap (λ (l : List ℕ). l ++ drop end name) stem in
         let not_given : is_among (given_of names nodes) f ≡ false = decided (is_among (given_of names nodes) f) (λ h.
-            let o = given_out f h in
-            let same : o.0 ≡ found = are.tree.one o.0 found o.1 at.within (o.3 ∙ sym stem ∙ sym at.is) in
-            let no : true ≡ false = sym o.2 ∙ ap (λ (i : ℕ). (node_at nodes i).given) same ∙ free in cc) in
+        let o = given_out f h in
+        let same : o.0 ≡ found = are.tree.one o.0 found o.1 at.within (o.3 ∙ sym stem ∙ sym at.is) in
+        let no : true ≡ false = sym o.2 ∙ ap (λ (i : ℕ). (node_at nodes i).given) same ∙ free in cc) in
         let before : (front more : List ℕ) → name ≡ (front ++ 47 ∷ []) ++ more → length front < length f → is_among (given_of names nodes) front ≡ true = λ front more e short.
-            elim (behind (front ++ 47 ∷ []) more (take end name) (drop end name) (sym e ∙ sym (take-append-drop end name))) [
-              | inl w ↦ shorter front w.0 (sym step ∙ w.1) q (q_some end is) is.2 (λ h. too_short front f short (sym stem ∙ w.1 ∙ ap (λ (l : List ℕ). (front ++ 47 ∷ []) ++ l) h ∙ append-nil (front ++ 47 ∷ [])))
-              | inr w ↦ absurd (too_long front f w.0 short (w.1 ∙ ap (λ (l : List ℕ). l ++ w.0) stem))
-            ] in
+        elim (behind (front ++ 47 ∷ []) more (take end name) (drop end name) (sym e ∙ sym (take-append-drop end name))) [
+          | inl w ↦ shorter front w.0 (sym step ∙ w.1) q (q_some end is) is.2 (λ h. too_short front f short (sym stem ∙ w.1 ∙ ap (λ (l : List ℕ). (front ++ 47 ∷ []) ++ l) h ∙ append-nil (front ++ 47 ∷ [])))
+          | inr w ↦ absurd (too_long front f w.0 short (w.1 ∙ ap (λ (l : List ℕ). l ++ w.0) stem))
+        ] in
         record {
           folder = f;
           is = left_is (given_of names nodes) name ∙ (first_found (is_among (given_of names nodes)) name f (drop end name) whole not_given before);
@@ -259,6 +261,7 @@ module _ (names : List (List ℕ)) (nodes : List Node) (are : AreNodes names nod
       where
         too_short : (front f : List ℕ) → length front < length f → f ++ 47 ∷ [] ≡ front ++ 47 ∷ [] → ⊥
         too_short front f short e = let same : length f ≡ length front = ap length (append_cancel_right f front (47 ∷ []) e) in omega arith
+
         too_long : (front f c : List ℕ) → length front < length f → front ++ 47 ∷ [] ≡ (f ++ 47 ∷ []) ++ c → ⊥
         too_long front f c short e =
             let a = length-append front (47 ∷ []) in
@@ -266,12 +269,13 @@ module _ (names : List (List ℕ)) (nodes : List Node) (are : AreNodes names nod
             let d = length-append f (47 ∷ []) in
             let l : length (front ++ 47 ∷ []) ≡ length ((f ++ 47 ∷ []) ++ c) = ap length e in
             omega arith
+
         shorter : (front c : List ℕ) → key_at names nodes p ++ drop n.len (take end name) ≡ (front ++ 47 ∷ []) ++ c → (q : List ℕ) → q ≢ [] → EndsAtSlash (drop n.len (take end name)) → (c ≡ [] → ⊥) → is_among (given_of names nodes) front ≡ true
         shorter front c e q some ends more = elim (behind (key_at names nodes p) (drop n.len (take end name)) (front ++ 47 ∷ []) c e) [
-            | inl ([], f, g) ↦ above_given p front [] way.within given (sym (f ∙ append-nil (key_at names nodes p)) ∙ sym (append-nil (front ++ 47 ∷ [])))
-            | inl (y ∷ d, f, g) ↦ absurd (inside (y ∷ d) c (folder_tail (key_at names nodes p) y d (subst IsFolderKey f (folder_joined front (47 ∷ []) (λ h. cc) refl))) (λ h. cc) more (subst EndsAtSlash g ends))
-            | inr w ↦ above_given p front w.0 way.within given w.1
-          ]
+          | inl ([], f, g) ↦ above_given p front [] way.within given (sym (f ∙ append-nil (key_at names nodes p)) ∙ sym (append-nil (front ++ 47 ∷ [])))
+          | inl (y ∷ d, f, g) ↦ absurd (inside (y ∷ d) c (folder_tail (key_at names nodes p) y d (subst IsFolderKey f (folder_joined front (47 ∷ []) (λ h. cc) refl))) (λ h. cc) more (subst EndsAtSlash g ends))
+          | inr w ↦ above_given p front w.0 way.within given w.1
+        ]
 
     pub none_left : IsEnd name n.len None → folder_left (given_of names nodes) name ≡ None
     none_left is = left_is (given_of names nodes) name ∙ first_none (is_among (given_of names nodes)) name (λ front more e.
@@ -298,9 +302,9 @@ module _ (names : List (List ℕ)) (nodes : List Node) (are : AreNodes names nod
 
     same : {A : Type 0} (field : Node → A) → field (record (node_at nodes at) { given = true }) ≡ field (node_at nodes at) → (i : ℕ) → field (node_at next i) ≡ field (node_at nodes i)
     same field e i = elim (cases_eq i at) [
-        | inl h ↦ ap (λ (k : ℕ). field (node_at next k)) h ∙ ap field here ∙ e ∙ ap (λ (k : ℕ). field (node_at nodes k)) (sym h)
-        | inr ne ↦ ap field (there i ne)
-      ]
+      | inl h ↦ ap (λ (k : ℕ). field (node_at next k)) h ∙ ap field here ∙ e ∙ ap (λ (k : ℕ). field (node_at nodes k)) (sym h)
+      | inr ne ↦ ap field (there i ne)
+    ]
 
     same_key : (i : ℕ) → key_at names next i ≡ key_at names nodes i
     unfolding key_at
@@ -308,17 +312,17 @@ module _ (names : List (List ℕ)) (nodes : List Node) (are : AreNodes names nod
 
     same_links : links_of names next ≡ links_of names nodes
     same_links = λ k. record {
-        parent = λ i. same (λ n. n.parent) refl i k;
-        first = λ i. same (λ n. n.first_child) refl i k;
-        next = λ i. same (λ n. n.next_sibling) refl i k;
-        key = λ i. same_key i k;
-      }
+      parent = λ i. same (λ n. n.parent) refl i k;
+      first = λ i. same (λ n. n.first_child) refl i k;
+      next = λ i. same (λ n. n.next_sibling) refl i k;
+      key = λ i. same_key i k;
+    }
 
     given_stays : (i : ℕ) → (node_at nodes i).given ≡ true → (node_at next i).given ≡ true
     given_stays i e = elim (cases_eq i at) [
-        | inl h ↦ ap (λ (k : ℕ). (node_at next k).given) h ∙ ap (λ (n : Node). n.given) here
-        | inr ne ↦ ap (λ (n : Node). n.given) (there i ne) ∙ e
-      ]
+      | inl h ↦ ap (λ (k : ℕ). (node_at next k).given) h ∙ ap (λ (n : Node). n.given) here
+      | inr ne ↦ ap (λ (n : Node). n.given) (there i ne) ∙ e
+    ]
 
     old_within : (i : ℕ) → i < length next → i < length nodes
     old_within i lt = let c = count in omega arith
@@ -327,37 +331,45 @@ module _ (names : List (List ℕ)) (nodes : List Node) (are : AreNodes names nod
     closed_at i isome lt given =
         let p = same (λ n. n.parent) refl i in
         elim (cases_eq i at) [
-          | inl h ↦
-              (subst IsFolderKey (sym (same_key i ∙ ap (key_at names nodes) h ∙ key_is)) (folder_joined folder (47 ∷ []) (λ z. cc) refl),
-               λ up. subst (λ (k : ℕ). (node_at next k).given ≡ true) (sym (p ∙ ap (λ (k : ℕ). (node_at nodes k).parent) h))
-                   (given_stays (node_at nodes at).parent (above (subst (λ (k : ℕ). 0 < k) (p ∙ ap (λ (k : ℕ). (node_at nodes k).parent) h) up))))
+          | inl h ↦ (
+            subst IsFolderKey (sym (same_key i ∙ ap (key_at names nodes) h ∙ key_is)) (folder_joined folder (47 ∷ []) (λ z. cc) refl),
+            λ up. subst (λ (k : ℕ). (node_at next k).given ≡ true) (sym (p ∙ ap (λ (k : ℕ). (node_at nodes k).parent) h))
+                (given_stays (node_at nodes at).parent (above (subst (λ (k : ℕ). 0 < k) (p ∙ ap (λ (k : ℕ). (node_at nodes k).parent) h) up))),
+          )
           | inr ne ↦
-              let c = are.closed i isome (old_within i lt) (sym (ap (λ (n : Node). n.given) (there i ne)) ∙ given) in
-              (subst IsFolderKey (sym (same_key i)) c.0,
-               λ up. subst (λ (k : ℕ). (node_at next k).given ≡ true) (sym p) (given_stays (node_at nodes i).parent (c.1 (subst (λ (k : ℕ). 0 < k) p up))))
+              let c = are.closed i isome (old_within i lt) (sym (ap (λ (n : Node). n.given) (there i ne)) ∙ given) in (
+                subst IsFolderKey (sym (same_key i)) c.0,
+                λ up. subst (λ (k : ℕ). (node_at next k).given ≡ true) (sym p) (given_stays (node_at nodes i).parent (c.1 (subst (λ (k : ℕ). 0 < k) p up))),
+              )
         ]
 
     pub are_given : AreNodes names next
     are_given = record {
-        tree = subst (λ (n : ℕ). IsTree n (links_of names next)) (sym count) (subst (IsTree (length nodes)) (sym same_links) are.tree);
-        keyed = λ i s lt. let k = are.keyed i s (old_within i lt) in
-            (subst (λ (m : ℕ). m < length names) (sym (same (λ n. n.name) refl i)) k.0,
-             subst (λ (m : ℕ). m ≤ length (get_or names (node_at next i).name [])) (sym (same (λ n. n.len) refl i)) (subst (λ (m : ℕ). (node_at nodes i).len ≤ length (get_or names m [])) (sym (same (λ n. n.name) refl i)) k.1));
-        start = same (λ n. n.len) refl 0 ∙ are.start;
-        leaf = λ i s lt is. same_key i ∙ are.leaf i s (old_within i lt) (λ f. is (subst IsFolderKey (sym (same_key i)) f)) ∙ ap (λ (m : ℕ). get_or names m []) (sym (same (λ n. n.name) refl i));
-        full = λ i s lt f. subst (λ (m : ℕ). 0 < m) (sym (same (λ n. n.first_child) refl i)) (are.full i s (old_within i lt) (subst IsFolderKey (same_key i) f));
-        placed = λ m lt. let p = are.placed m lt in record {
-          place = p.place; some = p.some; within = let c = count in let w = p.within in omega arith; named = same (λ n. n.name) refl p.place ∙ p.named; is = same_key p.place ∙ p.is };
-        relative = are.relative;
-        ungiven = let ne : 0 ≢ at = omega arith in ap (λ (n : Node). n.given) (there 0 ne) ∙ are.ungiven;
-        closed = closed_at;
-      }
+      tree = subst (λ (n : ℕ). IsTree n (links_of names next)) (sym count) (subst (IsTree (length nodes)) (sym same_links) are.tree);
+      keyed = λ i s lt. let k = are.keyed i s (old_within i lt) in (
+        subst (λ (m : ℕ). m < length names) (sym (same (λ n. n.name) refl i)) k.0,
+        subst (λ (m : ℕ). m ≤ length (get_or names (node_at next i).name [])) (sym (same (λ n. n.len) refl i)) (subst (λ (m : ℕ). (node_at nodes i).len ≤ length (get_or names m [])) (sym (same (λ n. n.name) refl i)) k.1),
+      );
+      start = same (λ n. n.len) refl 0 ∙ are.start;
+      leaf = λ i s lt is. same_key i ∙ are.leaf i s (old_within i lt) (λ f. is (subst IsFolderKey (sym (same_key i)) f)) ∙ ap (λ (m : ℕ). get_or names m []) (sym (same (λ n. n.name) refl i));
+      full = λ i s lt f. subst (λ (m : ℕ). 0 < m) (sym (same (λ n. n.first_child) refl i)) (are.full i s (old_within i lt) (subst IsFolderKey (same_key i) f));
+      placed = λ m lt. let p = are.placed m lt in record {
+        place = p.place;
+        some = p.some;
+        within = let c = count in let w = p.within in omega arith;
+        named = same (λ n. n.name) refl p.place ∙ p.named;
+        is = same_key p.place ∙ p.is;
+      };
+      relative = are.relative;
+      ungiven = let ne : 0 ≢ at = omega arith in ap (λ (n : Node). n.given) (there 0 ne) ∙ are.ungiven;
+      closed = closed_at;
+    }
 
     given_back : (i : ℕ) (name : List ℕ) → (node_at next i).given ≡ true → key_at names next i ≡ name ++ 47 ∷ [] → name ≢ folder → (node_at nodes i).given ≡ true
     given_back i name given e other = elim (cases_eq i at) [
-        | inl h ↦ absurd (other (append_cancel_right name folder (47 ∷ []) (sym e ∙ same_key i ∙ ap (key_at names nodes) h ∙ key_is)))
-        | inr ne ↦ sym (ap (λ (n : Node). n.given) (there i ne)) ∙ given
-      ]
+      | inl h ↦ absurd (other (append_cancel_right name folder (47 ∷ []) (sym e ∙ same_key i ∙ ap (key_at names nodes) h ∙ key_is)))
+      | inr ne ↦ sym (ap (λ (n : Node). n.given) (there i ne)) ∙ given
+    ]
 
 module _ (names : List (List ℕ)) (nodes next : List Node) (are : AreNodes names nodes) (at : ℕ) (folder : List ℕ) (within : at < length nodes) (some : 0 < at) (key_is : key_at names nodes at ≡ folder ++ 47 ∷ [])
     (above : 0 < (node_at nodes at).parent → (node_at nodes (node_at nodes at).parent).given ≡ true) (next_is : next ≡ with_given nodes at) where
@@ -366,16 +378,17 @@ module _ (names : List (List ℕ)) (nodes next : List Node) (are : AreNodes name
     where
       news : AreNodes names next
       news = are_given names nodes are at folder within some key_is above next next_is
+
       by : (a : Bool) → is_same_name name folder ≡ a → (b : Bool) → is_among (given_of names nodes) name ≡ b → is_among (given_of names next) name ≡ (a || b)
       by true e b f =
           given_in names next news at name (let c = count names nodes are at folder within some key_is above next next_is in omega arith)
-              (ap (λ (n : Node). n.given) (here names nodes are at folder within some key_is above next next_is))
-              (same_key names nodes are at folder within some key_is above next next_is at ∙ key_is ∙ ap (λ (l : List ℕ). l ++ 47 ∷ []) (sym (is_it name folder true e refl)))
+          (ap (λ (n : Node). n.given) (here names nodes are at folder within some key_is above next next_is))
+          (same_key names nodes are at folder within some key_is above next next_is at ∙ key_is ∙ ap (λ (l : List ℕ). l ++ 47 ∷ []) (sym (is_it name folder true e refl)))
       by false e true f =
           let o = given_out names nodes are name f in
           given_in names next news o.0 name (let c = count names nodes are at folder within some key_is above next next_is in let lt = o.1 in omega arith)
-              (given_stays names nodes are at folder within some key_is above next next_is o.0 o.2)
-              (same_key names nodes are at folder within some key_is above next next_is o.0 ∙ o.3)
+          (given_stays names nodes are at folder within some key_is above next next_is o.0 o.2)
+          (same_key names nodes are at folder within some key_is above next next_is o.0 ∙ o.3)
       by false e false f = decided (is_among (given_of names next) name) (λ h.
           let o = given_out names next news name h in
           let back = given_back names nodes are at folder within some key_is above next next_is o.0 name o.2 o.3 (λ same. let yes_same = same_name name folder same in let no : true ≡ false = sym yes_same ∙ e in cc) in
@@ -427,9 +440,9 @@ module _ (names : List (List ℕ)) (nodes next : List Node) (name : List ℕ) (p
 pub held_found : (names : List (List ℕ)) (nodes : List Node) (are : AreNodes names nodes) (name : List ℕ) (p : ℕ) (n : Node) (way : IsOnWay names nodes name p) (ne : n ≡ node_at nodes p) (given : IsGivenTo nodes p) (end found : ℕ)
     → IsEnd name n.len (Some end) → is_among names name ≡ true → (found ≡ 0 → (j : ℕ) → 0 < j → IsFound names nodes p (take end name) j → ⊥) → 0 < found
 held_found names nodes are name p n way ne given end found is held absent = elim (cases_eq found 0) [
-    | inl z ↦ absurd (held_step names nodes are name p n way ne given end is held (absent z))
-    | inr some ↦ omega arith
-  ]
+  | inl z ↦ absurd (held_step names nodes are name p n way ne given end is held (absent z))
+  | inr some ↦ omega arith
+]
 
 -- what is written back behind a slice is the slice
 pub written_back : (items marked : List Node) (len at : ℕ) → marked ≡ with_given items at → length items ≡ len → take len (marked ++ drop (length marked) items) ≡ with_given items at

@@ -2,13 +2,13 @@
 use Rattle.std.proofs.Common.{◌≡◌, ◌≢◌, ℕ, zero, suc, ◌+◌, ◌-◌, ◌<◌, ◌≤◌, ◌⊎◌, Bool, true, false, List, [], ◌∷◌, ◌++◌, length, get_or, take, drop, refl, sym, ap, ◌∙◌, subst, arith, inl, inr, Option, Some, None, if◌then◌else◌, ◌==◌}
 use Rattle.std.proofs.lemmas.Bool.{cases_lt, cases_eq}
 use Rattle.std.proofs.lemmas.Bool.Decides.{nat_tests}
-use Rattle.std.proofs.lemmas.List.{append-nil, append_assoc, append_cancel_left, take-append-drop, length-append, length-drop, length-take-le, get_or_append_left, get_or_push, get_or_past, take_all}
+use Rattle.std.proofs.lemmas.List.{append-nil, append_assoc, take-append-drop, length-append, length-drop, length-take-le, get_or_append_left, get_or_push, get_or_past, take_all}
 use Rattle.std.specs.List.{list_all, filter_map, cons_option}
 use Rattle.cook_bits.specs.Names.{is_plain_segment, segments_of, is_relative_name, IsRelativeName}
 use Rattle.name_tree.specs.declared.node.Node.{Node}
-use Rattle.name_tree.specs.Tree.{Below, AtMost, EndsAtSlash, IsPiece, IsFolderKey, IsChildKey, Links, IsTree}
+use Rattle.name_tree.specs.Tree.{Below, AtMost, EndsAtSlash, IsPiece, IsFolderKey, IsTree}
 use Rattle.name_tree.specs.Nodes.{root_node, node_at, key_at, links_of, after_of, AreKeyed, HasPlace, AreNodes, IsNameTree, new_node, hung, given_name, given_of}
-use Rattle.name_tree.specs.Searching.{IsChildOrNone, IsBefore, IsPlace, IsOnWay, IsEnd, IsAbsent, IsHung, CanHang, IsFree}
+use Rattle.name_tree.specs.Searching.{IsChildOrNone, IsOnWay, IsEnd, IsAbsent, IsHung, CanHang, IsFree}
 use Rattle.name_tree.proofs.Orders.{behind, piece_some}
 use Rattle.name_tree.proofs.Trees.{leads}
 use Rattle.name_tree.proofs.Searches.{Stands, folder_joined, way_step, way_rest, way_len}
@@ -56,8 +56,8 @@ pub hung_given : (names : List (List ℕ)) (nodes next : List Node) (parent befo
 unfolding node_at
 hung_given names nodes next parent before name len is =
     filtered_more (given_name names) (given_name names) nodes next root_node is.count
-        (λ i lt. λ k. if sym (is.givens i lt) k then Some (take (sym (is.lens i lt) k - 1) (get_or names (sym (is.names i lt) k) [])) else None)
-        (ap (given_name names) is.new)
+    (λ i lt. λ k. if sym (is.givens i lt) k then Some (take (sym (is.lens i lt) k - 1) (get_or names (sym (is.names i lt) k) [])) else None)
+    (ap (given_name names) is.new)
 
 given_kept : (names : List (List ℕ)) (x : List ℕ) (n : Node) → (n.given ≡ true → n.name < length names) → given_name names n ≡ given_name (names ++ x ∷ []) n
 given_kept names x n known = by n.given known
@@ -73,16 +73,16 @@ module _ (names : List (List ℕ)) (nodes : List Node) (name : List ℕ) (are : 
   pub longer_key : (i : ℕ) → key_at (names ++ name ∷ []) nodes i ≡ key_at names nodes i
   unfolding key_at node_at
   longer_key i = elim (cases_lt i (length nodes)) [
-      | inl lt ↦ elim (cases_eq i 0) [
-          | inl zero_is ↦
-              let none : (node_at nodes i).len ≡ 0 = ap (λ (k : ℕ). (node_at nodes k).len) zero_is ∙ are.start in
-              (λ k. take (none k) (get_or (names ++ name ∷ []) (node_at nodes i).name [])) ∙ sym (λ k. take (none k) (get_or names (node_at nodes i).name []))
-          | inr ne ↦ ap (take (node_at nodes i).len) (get_or_append_left names (name ∷ []) [] (node_at nodes i).name (are.keyed i (omega arith) lt).0)
-        ]
-      | inr ge ↦
-          let none : (node_at nodes i).len ≡ 0 = ap (λ (n : Node). n.len) (get_or_past nodes i root_node ge) in
+    | inl lt ↦ elim (cases_eq i 0) [
+      | inl zero_is ↦
+          let none : (node_at nodes i).len ≡ 0 = ap (λ (k : ℕ). (node_at nodes k).len) zero_is ∙ are.start in
           (λ k. take (none k) (get_or (names ++ name ∷ []) (node_at nodes i).name [])) ∙ sym (λ k. take (none k) (get_or names (node_at nodes i).name []))
+      | inr ne ↦ ap (take (node_at nodes i).len) (get_or_append_left names (name ∷ []) [] (node_at nodes i).name (are.keyed i (omega arith) lt).0)
     ]
+    | inr ge ↦
+        let none : (node_at nodes i).len ≡ 0 = ap (λ (n : Node). n.len) (get_or_past nodes i root_node ge) in
+        (λ k. take (none k) (get_or (names ++ name ∷ []) (node_at nodes i).name [])) ∙ sym (λ k. take (none k) (get_or names (node_at nodes i).name []))
+  ]
 
   all_keys : key_at (names ++ name ∷ []) nodes ≡ key_at names nodes
   all_keys = λ k i. longer_key i k
@@ -95,14 +95,14 @@ module _ (names : List (List ℕ)) (nodes : List Node) (name : List ℕ) (are : 
 
   longer_can : (parent before : ℕ) (key : List ℕ) → CanHang names nodes parent key before → CanHang (names ++ name ∷ []) nodes parent key before
   longer_can parent before key can = record {
-      place = record {
-        low = λ h. let l = can.place.low h in (l.0, l.1, subst (λ (k : List ℕ). Below k key) (sym (longer_key before)) l.2);
-        high = λ h. subst (λ (k : List ℕ). AtMost key k) (sym (longer_key (after_of nodes parent before))) (can.place.high h);
-      };
-      absent = longer_absent key can.absent;
-      no_file = λ front e. longer_absent front (can.no_file front e);
-      no_folder = longer_absent (key ++ 47 ∷ []) can.no_folder;
-    }
+    place = record {
+      low = λ h. let l = can.place.low h in (l.0, l.1, subst (λ (k : List ℕ). Below k key) (sym (longer_key before)) l.2);
+      high = λ h. subst (λ (k : List ℕ). AtMost key k) (sym (longer_key (after_of nodes parent before))) (can.place.high h);
+    };
+    absent = longer_absent key can.absent;
+    no_file = λ front e. longer_absent front (can.no_file front e);
+    no_folder = longer_absent (key ++ 47 ∷ []) can.no_folder;
+  }
 
   longer_name : (m : ℕ) → m < length names → get_or (names ++ name ∷ []) m [] ≡ get_or names m []
   longer_name m lt = get_or_append_left names (name ∷ []) [] m lt
@@ -113,25 +113,25 @@ module _ (names : List (List ℕ)) (nodes : List Node) (name : List ℕ) (are : 
   pub grows_from : (parent before start : ℕ) → IsOnWay names nodes name parent → start ≡ (node_at nodes parent).len → IsChildOrNone nodes parent before → IsFree names nodes name parent before
       → IsGrowing (names ++ name ∷ []) nodes name (length names) parent before start
   grows_from parent before start way start_is near free = record {
-      tree = longer_tree;
-      keyed = λ i some lt. let k = are.keyed i some lt in let l = longer_length in let known = k.0 in
-          (omega arith, subst (λ (n : List ℕ). (node_at nodes i).len ≤ length n) (sym (longer_name (node_at nodes i).name k.0)) k.1);
-      root = are.start;
-      leaf = λ i some lt is. longer_key i ∙ are.leaf i some lt (λ f. is (subst IsFolderKey (sym (longer_key i)) f)) ∙ sym (longer_name (node_at nodes i).name (are.keyed i some lt).0);
-      full = λ i some lt ne f. are.full i some lt (subst IsFolderKey (longer_key i) f);
-      placed = λ m lt. let p = are.placed m lt in record { place = p.place; some = p.some; within = p.within; named = p.named; is = longer_key p.place ∙ p.is ∙ sym (longer_name m lt) };
-      ungiven = are.ungiven;
-      closed = λ i some lt g. let c = are.closed i some lt g in (subst IsFolderKey (sym (longer_key i)) c.0, c.1);
-      way = record { within = way.within; folder = subst IsFolderKey (sym (longer_key parent)) way.folder; rest = way.rest; is = way.is ∙ ap (λ (k : List ℕ). k ++ way.rest) (sym (longer_key parent)) };
-      start_is = start_is;
-      near = near;
-      free = λ piece rest isp e or.
-          let same = longer_key parent in
-          let can = free piece rest isp (e ∙ ap (λ (k : List ℕ). (k ++ piece) ++ rest) same) or in
-          subst (λ (k : List ℕ). CanHang (names ++ name ∷ []) nodes parent (k ++ piece) before) (sym same) (longer_can parent before (key_at names nodes parent ++ piece) can);
-      known = let l = longer_length in omega arith;
-      is = get_or_push names name [] (length names) refl;
-    }
+    tree = longer_tree;
+    keyed = λ i some lt. let k = are.keyed i some lt in let l = longer_length in let known = k.0 in
+        (omega arith, subst (λ (n : List ℕ). (node_at nodes i).len ≤ length n) (sym (longer_name (node_at nodes i).name k.0)) k.1);
+    root = are.start;
+    leaf = λ i some lt is. longer_key i ∙ are.leaf i some lt (λ f. is (subst IsFolderKey (sym (longer_key i)) f)) ∙ sym (longer_name (node_at nodes i).name (are.keyed i some lt).0);
+    full = λ i some lt ne f. are.full i some lt (subst IsFolderKey (longer_key i) f);
+    placed = λ m lt. let p = are.placed m lt in record { place = p.place; some = p.some; within = p.within; named = p.named; is = longer_key p.place ∙ p.is ∙ sym (longer_name m lt) };
+    ungiven = are.ungiven;
+    closed = λ i some lt g. let c = are.closed i some lt g in (subst IsFolderKey (sym (longer_key i)) c.0, c.1);
+    way = record { within = way.within; folder = subst IsFolderKey (sym (longer_key parent)) way.folder; rest = way.rest; is = way.is ∙ ap (λ (k : List ℕ). k ++ way.rest) (sym (longer_key parent)) };
+    start_is = start_is;
+    near = near;
+    free = λ piece rest isp e or.
+        let same = longer_key parent in
+        let can = free piece rest isp (e ∙ ap (λ (k : List ℕ). (k ++ piece) ++ rest) same) or in
+        subst (λ (k : List ℕ). CanHang (names ++ name ∷ []) nodes parent (k ++ piece) before) (sym same) (longer_can parent before (key_at names nodes parent ++ piece) can);
+    known = let l = longer_length in omega arith;
+    is = get_or_push names name [] (length names) refl;
+  }
 
   pub longer_given : given_of (names ++ name ∷ []) nodes ≡ given_of names nodes
   unfolding node_at
@@ -143,12 +143,12 @@ module _ (names : List (List ℕ)) (nodes : List Node) (name : List ℕ) (are : 
 
   pub longer_relative : is_relative_name name ≡ true → (m : ℕ) → m < length (names ++ name ∷ []) → IsRelativeName (get_or (names ++ name ∷ []) m [])
   longer_relative relative m lt = elim (cases_lt m (length names)) [
-      | inl l ↦ subst IsRelativeName (sym (longer_name m l)) (are.relative m l)
-      | inr ge ↦
-          let l = longer_length in
-          let last : length names ≡ m = omega arith in
-          subst IsRelativeName (sym (get_or_push names name [] m last)) relative
-    ]
+    | inl l ↦ subst IsRelativeName (sym (longer_name m l)) (are.relative m l)
+    | inr ge ↦
+        let l = longer_length in
+        let last : length names ≡ m = omega arith in
+        subst IsRelativeName (sym (get_or_push names name [] m last)) relative
+  ]
 
 -- ---- a place more
 
@@ -183,59 +183,61 @@ module _ (names : List (List ℕ)) (nodes next : List Node) (name : List ℕ) (n
 
   next_keyed : AreKeyed names next
   next_keyed i some lt = elim (which i lt) [
-      | inl l ↦
-          let k = g.keyed i some l in
-          (subst (λ (m : ℕ). m < length names) (sym (is.names i l)) k.0,
-           subst (λ (m : ℕ). (node_at next i).len ≤ length (get_or names m [])) (sym (is.names i l)) (subst (λ (m : ℕ). m ≤ length (get_or names (node_at nodes i).name [])) (sym (is.lens i l)) k.1))
-      | inr e ↦
-          let there : node_at next i ≡ new_node nodes parent before number len = ap (node_at next) e ∙ is.new in
-          subst (λ (n : Node). (n.name < length names) × (n.len ≤ length (get_or names n.name []))) (sym there) (g.known, subst (λ (l : List ℕ). len ≤ length l) (sym g.is) le)
-    ]
+    | inl l ↦
+        let k = g.keyed i some l in (
+          subst (λ (m : ℕ). m < length names) (sym (is.names i l)) k.0,
+          subst (λ (m : ℕ). (node_at next i).len ≤ length (get_or names m [])) (sym (is.names i l)) (subst (λ (m : ℕ). m ≤ length (get_or names (node_at nodes i).name [])) (sym (is.lens i l)) k.1),
+        )
+    | inr e ↦
+        let there : node_at next i ≡ new_node nodes parent before number len = ap (node_at next) e ∙ is.new in
+        subst (λ (n : Node). (n.name < length names) × (n.len ≤ length (get_or names n.name []))) (sym there) (g.known, subst (λ (l : List ℕ). len ≤ length l) (sym g.is) le)
+  ]
 
   next_root : (node_at next 0).len ≡ 0
   next_root = is.lens 0 some_in ∙ g.root
 
   next_leaf : (i : ℕ) → 0 < i → i < length next → (IsFolderKey (key_at names next i) → ⊥) → key_at names next i ≡ get_or names (node_at next i).name []
   next_leaf i some lt leaf = elim (which i lt) [
-      | inl l ↦ old_key i l ∙ g.leaf i some l (λ f. leaf (subst IsFolderKey (sym (old_key i l)) f)) ∙ ap (λ (m : ℕ). get_or names m []) (sym (is.names i l))
-      | inr e ↦ elim or [
-          | inl folder ↦ absurd (leaf (subst IsFolderKey (sym (ap (key_at names next) e ∙ last_key)) (folder_joined (key_at names nodes parent) piece (piece_some piece isp) folder)))
-          | inr nothing ↦
-              let k : key_at names nodes parent ++ piece ≡ name = sym (whole ∙ ap (λ (l : List ℕ). (key_at names nodes parent ++ piece) ++ l) nothing ∙ append-nil (key_at names nodes parent ++ piece)) in
-              let at : (node_at next i).name ≡ number = ap (λ (j : ℕ). (node_at next j).name) e ∙ ap (λ (n : Node). n.name) is.new in
-              ap (key_at names next) e ∙ last_key ∙ k ∙ sym g.is ∙ ap (λ (m : ℕ). get_or names m []) (sym at)
-        ]
+    | inl l ↦ old_key i l ∙ g.leaf i some l (λ f. leaf (subst IsFolderKey (sym (old_key i l)) f)) ∙ ap (λ (m : ℕ). get_or names m []) (sym (is.names i l))
+    | inr e ↦ elim or [
+      | inl folder ↦ absurd (leaf (subst IsFolderKey (sym (ap (key_at names next) e ∙ last_key)) (folder_joined (key_at names nodes parent) piece (piece_some piece isp) folder)))
+      | inr nothing ↦
+          let k : key_at names nodes parent ++ piece ≡ name = sym (whole ∙ ap (λ (l : List ℕ). (key_at names nodes parent ++ piece) ++ l) nothing ∙ append-nil (key_at names nodes parent ++ piece)) in
+          let at : (node_at next i).name ≡ number = ap (λ (j : ℕ). (node_at next j).name) e ∙ ap (λ (n : Node). n.name) is.new in
+          ap (key_at names next) e ∙ last_key ∙ k ∙ sym g.is ∙ ap (λ (m : ℕ). get_or names m []) (sym at)
     ]
+  ]
 
   next_full : (i : ℕ) → 0 < i → i < length next → i ≢ length nodes → IsFolderKey (key_at names next i) → 0 < (node_at next i).first_child
   next_full i some lt ne f = elim (which i lt) [
-      | inl l ↦ elim (cases_eq i parent) [
-          | inl same ↦ subst (λ (j : ℕ). 0 < (node_at next j).first_child) (sym same) (next_tree.first_least parent (length nodes) some_in last_in (ap (λ (n : Node). n.parent) is.new)).0
-          | inr other ↦ subst (λ (x : ℕ). 0 < x) (sym (is.first_old i l (λ h e. other e))) (g.full i some l other (subst IsFolderKey (old_key i l) f))
-        ]
-      | inr e ↦ absurd (ne e)
+    | inl l ↦ elim (cases_eq i parent) [
+      | inl same ↦ subst (λ (j : ℕ). 0 < (node_at next j).first_child) (sym same) (next_tree.first_least parent (length nodes) some_in last_in (ap (λ (n : Node). n.parent) is.new)).0
+      | inr other ↦ subst (λ (x : ℕ). 0 < x) (sym (is.first_old i l (λ h e. other e))) (g.full i some l other (subst IsFolderKey (old_key i l) f))
     ]
+    | inr e ↦ absurd (ne e)
+  ]
 
   next_placed : (m : ℕ) → m < number → HasPlace names next m
   next_placed m lt = let p = g.placed m lt in record {
-      place = p.place;
-      some = p.some;
-      within = let c = is.count in let w = p.within in omega arith;
-      named = is.names p.place p.within ∙ p.named;
-      is = old_key p.place p.within ∙ p.is;
-    }
+    place = p.place;
+    some = p.some;
+    within = let c = is.count in let w = p.within in omega arith;
+    named = is.names p.place p.within ∙ p.named;
+    is = old_key p.place p.within ∙ p.is;
+  }
 
   next_closed : (i : ℕ) → 0 < i → i < length next → (node_at next i).given ≡ true
       → IsFolderKey (key_at names next i) × ((0 < (node_at next i).parent) → (node_at next (node_at next i).parent).given ≡ true)
   next_closed i some lt given = elim (which i lt) [
-      | inl l ↦
-          let c = g.closed i some l (sym (is.givens i l) ∙ given) in
-          let up = g.tree.up i some l in
-          let pl : (node_at nodes i).parent < length nodes = let u : (node_at nodes i).parent < i = up in omega arith in
-          (subst IsFolderKey (sym (old_key i l)) c.0,
-           λ h. ap (λ (j : ℕ). (node_at next j).given) (is.parents i l) ∙ is.givens (node_at nodes i).parent pl ∙ c.1 (subst (λ (x : ℕ). 0 < x) (is.parents i l) h))
-      | inr e ↦ let no : false ≡ true = sym (ap (λ (j : ℕ). (node_at next j).given) e ∙ ap (λ (n : Node). n.given) is.new) ∙ given in cc
-    ]
+    | inl l ↦
+        let c = g.closed i some l (sym (is.givens i l) ∙ given) in
+        let up = g.tree.up i some l in
+        let pl : (node_at nodes i).parent < length nodes = let u : (node_at nodes i).parent < i = up in omega arith in (
+          subst IsFolderKey (sym (old_key i l)) c.0,
+          λ h. ap (λ (j : ℕ). (node_at next j).given) (is.parents i l) ∙ is.givens (node_at nodes i).parent pl ∙ c.1 (subst (λ (x : ℕ). 0 < x) (is.parents i l) h),
+        )
+    | inr e ↦ let no : false ≡ true = sym (ap (λ (j : ℕ). (node_at next j).given) e ∙ ap (λ (n : Node). n.given) is.new) ∙ given in cc
+  ]
 
   -- no key is under the new one
   bare : (u : List ℕ) (j : ℕ) → IsFolderKey piece → j < length next → key_at names next j ≡ key_at names next (length nodes) ++ u → u ≢ [] → ⊥
@@ -265,37 +267,40 @@ module _ (names : List (List ℕ)) (nodes next : List Node) (name : List ℕ) (n
     where
       nothing_behind : (node_at next (length nodes)).first_child ≡ 0 → 0 < (node_at next (length nodes)).first_child → ⊥
       nothing_behind e h = omega arith
+
       slash_piece : (p : List ℕ) → p ≡ 47 ∷ [] → IsPiece p → ⊥
       slash_piece p e i = (subst IsPiece e i).0 refl
+
       rest_none : (x : ℕ) (c p : List ℕ) → 47 ∷ [] ≡ x ∷ c ++ p → p ≡ []
       rest_none x [] p e = cc
       rest_none x (y ∷ c) p e = cc
+
       joined_some : (p : List ℕ) → p ++ 47 ∷ [] ≢ []
       joined_some [] e = cc
       joined_some (x ∷ p) e = cc
 
   pub with_folder : IsFolderKey piece → IsGrowing names next name number (length nodes) 0 len
   with_folder folder = record {
-      tree = next_tree;
-      keyed = next_keyed;
-      root = next_root;
-      leaf = next_leaf;
-      full = next_full;
-      placed = next_placed;
-      ungiven = is.givens 0 some_in ∙ g.ungiven;
-      closed = next_closed;
-      way = record {
-        within = last_in;
-        folder = subst IsFolderKey (sym last_key) (folder_joined (key_at names nodes parent) piece (piece_some piece isp) folder);
-        rest = rest;
-        is = whole ∙ ap (λ (k : List ℕ). k ++ rest) (sym last_key);
-      };
-      start_is = sym (ap (λ (n : Node). n.len) is.new);
-      near = λ h. absurd (omega arith);
-      free = bare_free folder;
-      known = g.known;
-      is = g.is;
-    }
+    tree = next_tree;
+    keyed = next_keyed;
+    root = next_root;
+    leaf = next_leaf;
+    full = next_full;
+    placed = next_placed;
+    ungiven = is.givens 0 some_in ∙ g.ungiven;
+    closed = next_closed;
+    way = record {
+      within = last_in;
+      folder = subst IsFolderKey (sym last_key) (folder_joined (key_at names nodes parent) piece (piece_some piece isp) folder);
+      rest = rest;
+      is = whole ∙ ap (λ (k : List ℕ). k ++ rest) (sym last_key);
+    };
+    start_is = sym (ap (λ (n : Node). n.len) is.new);
+    near = λ h. absurd (omega arith);
+    free = bare_free folder;
+    known = g.known;
+    is = g.is;
+  }
 
   pub with_file : rest ≡ [] → length names ≡ number + 1 → ((m : ℕ) → m < length names → IsRelativeName (get_or names m [])) → AreNodes names next
   with_file nothing count relatives =
@@ -351,11 +356,11 @@ module _ (names : List (List ℕ)) (nodes : List Node) (name : List ℕ) (number
       let step = way_step names nodes stand name parent n end g.way refl is2 in
       let whole : name ≡ (k ++ q) ++ drop end name = sym (take-append-drop end name) ∙ ap (λ (l : List ℕ). l ++ drop end name) step in
       let some : q ≢ [] = λ e.
-          let a = length-drop n.len (take end name) in
-          let b = length-take-le end name is2.1 in
-          let c : length q ≡ 0 = ap length e in
-          let lt = is2.0 in
-          omega arith in
+      let a = length-drop n.len (take end name) in
+      let b = length-take-le end name is2.1 in
+      let c : length q ≡ 0 = ap length e in
+      let lt = is2.0 in
+      omega arith in
       let isp : IsPiece q = is_piece q (drop end name) some is2.2 (plain_behind (q ++ drop end name) (whole ∙ append_assoc k q (drop end name))) in
       with_folder names nodes next name number parent before start end relative g hung_is is2.1 q (drop end name) isp step whole (inl is2.3) is2.3
 
@@ -413,34 +418,34 @@ pub file_step : (names more : List (List ℕ)) (nodes next olds : List Node) (na
 file_step names more nodes next olds name number parent before start are e f relative g is h =
     let count : length more ≡ number + 1 = let l = length-append names (name ∷ []) in let m : length more ≡ length (names ++ name ∷ []) = ap length e in omega arith in
     file_grows more nodes name number parent before start relative g next is (hung_as nodes next parent before number (length name) g.way.within g.near h) count
-        (subst (λ (l : List (List ℕ)). (m : ℕ) → m < length l → IsRelativeName (get_or l m [])) (sym e) (longer_relative names olds name are relative))
+    (subst (λ (l : List (List ℕ)). (m : ℕ) → m < length l → IsRelativeName (get_or l m [])) (sym e) (longer_relative names olds name are relative))
 
 -- ---- the root
 
 pub root_are : (names : List (List ℕ)) → AreNodes names [] → AreNodes names (root_node ∷ [])
 unfolding node_at key_at
 root_are names are = record {
-    tree = record {
-      root = refl;
-      up = λ i some lt. absurd (omega arith);
-      hangs = λ i some lt. absurd (omega arith);
-      folder = λ i some lt. absurd (omega arith);
-      one = λ i j a b e. omega arith;
-      apart = λ i j some a b e. absurd (omega arith);
-      first_is = λ i lt some. absurd (no_first i lt some);
-      first_least = λ i j some lt e. absurd (omega arith);
-      next_is = λ i some lt h. absurd (omega arith);
-      next_least = λ i j some lt h k e b. absurd (omega arith);
-    };
-    keyed = λ i some lt. absurd (omega arith);
-    start = refl;
-    leaf = λ i some lt f. absurd (omega arith);
-    full = λ i some lt f. absurd (omega arith);
-    placed = λ m lt. let p = are.placed m lt in let w : p.place < 0 = p.within in absurd (omega arith);
-    relative = are.relative;
-    ungiven = refl;
-    closed = λ i some lt f. absurd (omega arith);
-  }
+  tree = record {
+    root = refl;
+    up = λ i some lt. absurd (omega arith);
+    hangs = λ i some lt. absurd (omega arith);
+    folder = λ i some lt. absurd (omega arith);
+    one = λ i j a b e. omega arith;
+    apart = λ i j some a b e. absurd (omega arith);
+    first_is = λ i lt some. absurd (no_first i lt some);
+    first_least = λ i j some lt e. absurd (omega arith);
+    next_is = λ i some lt h. absurd (omega arith);
+    next_least = λ i j some lt h k e b. absurd (omega arith);
+  };
+  keyed = λ i some lt. absurd (omega arith);
+  start = refl;
+  leaf = λ i some lt f. absurd (omega arith);
+  full = λ i some lt f. absurd (omega arith);
+  placed = λ m lt. let p = are.placed m lt in let w : p.place < 0 = p.within in absurd (omega arith);
+  relative = are.relative;
+  ungiven = refl;
+  closed = λ i some lt f. absurd (omega arith);
+}
   where
     no_first : (i : ℕ) → i < 1 → 0 < (get_or (root_node ∷ []) i root_node).first_child → ⊥
     no_first zero lt h = omega arith
@@ -456,27 +461,27 @@ none_left n b e t = let h : (n == 0) ≡ true = sym e ∙ t in grind (arith, nat
 no_nodes : AreNodes [] []
 unfolding node_at key_at
 no_nodes = record {
-    tree = record {
-      root = refl;
-      up = λ i some lt. absurd (omega arith);
-      hangs = λ i some lt. absurd (omega arith);
-      folder = λ i some lt. absurd (omega arith);
-      one = λ i j a b e. absurd (omega arith);
-      apart = λ i j some a b e. absurd (omega arith);
-      first_is = λ i lt some. absurd (omega arith);
-      first_least = λ i j some lt e. absurd (omega arith);
-      next_is = λ i some lt h. absurd (omega arith);
-      next_least = λ i j some lt h k e b. absurd (omega arith);
-    };
-    keyed = λ i some lt. absurd (omega arith);
-    start = refl;
-    leaf = λ i some lt f. absurd (omega arith);
-    full = λ i some lt f. absurd (omega arith);
-    placed = λ m lt. absurd (omega arith);
-    relative = λ m lt. absurd (omega arith);
-    ungiven = refl;
-    closed = λ i some lt f. absurd (omega arith);
-  }
+  tree = record {
+    root = refl;
+    up = λ i some lt. absurd (omega arith);
+    hangs = λ i some lt. absurd (omega arith);
+    folder = λ i some lt. absurd (omega arith);
+    one = λ i j a b e. absurd (omega arith);
+    apart = λ i j some a b e. absurd (omega arith);
+    first_is = λ i lt some. absurd (omega arith);
+    first_least = λ i j some lt e. absurd (omega arith);
+    next_is = λ i some lt h. absurd (omega arith);
+    next_least = λ i j some lt h k e b. absurd (omega arith);
+  };
+  keyed = λ i some lt. absurd (omega arith);
+  start = refl;
+  leaf = λ i some lt f. absurd (omega arith);
+  full = λ i some lt f. absurd (omega arith);
+  placed = λ m lt. absurd (omega arith);
+  relative = λ m lt. absurd (omega arith);
+  ungiven = refl;
+  closed = λ i some lt f. absurd (omega arith);
+}
 
 pub no_tree : (names : List (List ℕ)) (nodes : List Node) → names ≡ [] → nodes ≡ [] → IsNameTree names nodes 0
 no_tree names nodes e f = subst (λ (l : List (List ℕ)). IsNameTree l nodes 0) (sym e) (subst (λ (l : List Node). IsNameTree [] l 0) (sym f) (record { are = no_nodes; within = λ h. absurd (omega arith) }))

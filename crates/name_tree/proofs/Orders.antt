@@ -1,7 +1,6 @@
 -- The byte order of lists, and where one list begins another.
-use Rattle.std.proofs.Common.{◌≡◌, ◌≢◌, ℕ, ◌+◌, ◌<◌, ◌≤◌, ◌⊎◌, List, [], ◌∷◌, ◌++◌, length, refl, sym, ap, ◌∙◌, subst, arith, inl, inr}
-use Rattle.std.proofs.lemmas.Bool.{cases_lt, cases_eq}
-use Rattle.std.proofs.lemmas.List.{append-nil, append_assoc}
+use Rattle.std.proofs.Common.{◌≡◌, ◌≢◌, ℕ, ◌<◌, ◌⊎◌, List, [], ◌∷◌, ◌++◌, refl, sym, ◌∙◌, subst, arith, inl, inr}
+use Rattle.std.proofs.lemmas.Bool.{cases_lt}
 use Rattle.std.specs.Ordering.{nat_cmp, ordering_then}
 use Rattle.std.specs.Cmp.Lexicographic.{slice_cmp}
 use Rattle.std.specs.declared.cmp.Ordering.{Ordering}
@@ -45,24 +44,24 @@ compared [] [] = inl refl
 compared [] (y ∷ ys) = inr (inl tt)
 compared (x ∷ xs) [] = inr (inr tt)
 compared (x ∷ xs) (y ∷ ys) = elim (cases_lt x y) [
-    | inl lt ↦ inr (inl (inl lt))
-    | inr ge ↦ elim (cases_lt y x) [
-        | inl gt ↦ inr (inr (inl gt))
-        | inr le ↦ let same : x ≡ y = omega arith in elim (compared xs ys) [
-            | inl e ↦ inl (λ i. same i ∷ e i)
-            | inr (inl b) ↦ inr (inl (inr (same, b)))
-            | inr (inr b) ↦ inr (inr (inr (sym same, b)))
-          ]
-      ]
+  | inl lt ↦ inr (inl (inl lt))
+  | inr ge ↦ elim (cases_lt y x) [
+    | inl gt ↦ inr (inr (inl gt))
+    | inr le ↦ let same : x ≡ y = omega arith in elim (compared xs ys) [
+      | inl e ↦ inl (λ i. same i ∷ e i)
+      | inr (inl b) ↦ inr (inl (inr (same, b)))
+      | inr (inr b) ↦ inr (inr (inr (sym same, b)))
+    ]
   ]
+]
 
 pub front_at_most : (xs rest : List ℕ) → AtMost xs (xs ++ rest)
 front_at_most [] [] = inl refl
 front_at_most [] (y ∷ ys) = inr tt
 front_at_most (x ∷ xs) rest = elim (front_at_most xs rest) [
-    | inl e ↦ inl (λ i. x ∷ e i)
-    | inr b ↦ inr (inr (refl, b))
-  ]
+  | inl e ↦ inl (λ i. x ∷ e i)
+  | inr b ↦ inr (inr (refl, b))
+]
 
 -- the first is below at a byte where both have one
 abbrev pub Splits : List ℕ → List ℕ → Type 0
@@ -82,25 +81,25 @@ beside [] ys b = inl (ys, refl)
 beside (x ∷ xs) [] b = absurd b
 beside (x ∷ xs) (y ∷ ys) (inl lt) = inr (inl lt)
 beside (x ∷ xs) (y ∷ ys) (inr both) = elim (beside xs ys both.1) [
-    | inl more ↦ inl (more.0, (λ i. sym both.0 i ∷ more.1 i))
-    | inr s ↦ inr (inr (both.0, s))
-  ]
+  | inl more ↦ inl (more.0, (λ i. sym both.0 i ∷ more.1 i))
+  | inr s ↦ inr (inr (both.0, s))
+]
 
 -- a list begins with the front, or is below it, or parts from it above
 pub fronts : (front ys : List ℕ) → ((rest : List ℕ) × (ys ≡ front ++ rest)) ⊎ (Below ys front ⊎ Splits front ys)
 fronts [] ys = inl (ys, refl)
 fronts (x ∷ front) [] = inr (inl tt)
 fronts (x ∷ front) (y ∷ ys) = elim (cases_lt x y) [
-    | inl lt ↦ inr (inr (inl lt))
-    | inr ge ↦ elim (cases_lt y x) [
-        | inl gt ↦ inr (inl (inl gt))
-        | inr le ↦ let same : x ≡ y = omega arith in elim (fronts front ys) [
-            | inl more ↦ inl (more.0, (λ i. sym same i ∷ more.1 i))
-            | inr (inl b) ↦ inr (inl (inr (sym same, b)))
-            | inr (inr s) ↦ inr (inr (inr (same, s)))
-          ]
-      ]
+  | inl lt ↦ inr (inr (inl lt))
+  | inr ge ↦ elim (cases_lt y x) [
+    | inl gt ↦ inr (inl (inl gt))
+    | inr le ↦ let same : x ≡ y = omega arith in elim (fronts front ys) [
+      | inl more ↦ inl (more.0, (λ i. sym same i ∷ more.1 i))
+      | inr (inl b) ↦ inr (inl (inr (sym same, b)))
+      | inr (inr s) ↦ inr (inr (inr (same, s)))
+    ]
   ]
+]
 
 pub cons_same : (x y : ℕ) (xs ys : List ℕ) → x ∷ xs ≡ y ∷ ys → (x ≡ y) × (xs ≡ ys)
 cons_same x y xs ys e = (cc, cc)
@@ -111,9 +110,9 @@ pub behind : (p a q b : List ℕ) → p ++ a ≡ q ++ b
 behind [] a q b e = inl (q, refl, e)
 behind (x ∷ p) a [] b e = inr (x ∷ p, refl, sym e)
 behind (x ∷ p) a (y ∷ q) b e = let both = cons_same x y (p ++ a) (q ++ b) e in elim (behind p a q b both.1) [
-    | inl w ↦ inl (w.0, (λ i. sym both.0 i ∷ w.1 i), w.2)
-    | inr w ↦ inr (w.0, (λ i. both.0 i ∷ w.1 i), w.2)
-  ]
+  | inl w ↦ inl (w.0, (λ i. sym both.0 i ∷ w.1 i), w.2)
+  | inr w ↦ inr (w.0, (λ i. both.0 i ∷ w.1 i), w.2)
+]
 
 -- ---- slashes
 
@@ -138,7 +137,6 @@ piece_some [] p = absurd p
 piece_some (x ∷ a) p = λ e. cc
 
 -- ---- std's order
-
 
 from_less : (x y : ℕ) (xs ys : List ℕ) (r : Ordering) → r ≡ nat_cmp x y → ordering_then r (slice_cmp nat_cmp xs ys) ≡ Less → (slice_cmp nat_cmp xs ys ≡ Less → Below xs ys) → Below (x ∷ xs) (y ∷ ys)
 from_less x y xs ys Less h e more = inl (ranked x y Less h)

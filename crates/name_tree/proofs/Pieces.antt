@@ -1,10 +1,10 @@
 -- Pieces of a name: up to a slash, or to the end where no slash is left.
-use Rattle.std.proofs.Common.{◌≡◌, ◌≢◌, ℕ, zero, suc, ◌+◌, ◌-◌, ◌<◌, ◌≤◌, ◌⊎◌, List, [], ◌∷◌, ◌++◌, length, get_or, take, drop, refl, sym, ap, ◌∙◌, subst, arith, inl, inr, Option, Some, None, add-one}
+use Rattle.std.proofs.Common.{◌≡◌, ◌≢◌, ℕ, zero, suc, ◌+◌, ◌-◌, ◌<◌, ◌≤◌, List, [], ◌∷◌, ◌++◌, length, get_or, take, drop, refl, sym, ap, ◌∙◌, subst, arith, inl, inr, Some, None}
 use Rattle.std.proofs.lemmas.Bool.{cases_lt}
-use Rattle.std.proofs.lemmas.List.{append-nil, append_assoc, append_cancel_left, drop-take, get_or-drop, length-drop, take-append-drop, drop_at, take_at, take-append-le, drop-append-le}
-use Rattle.name_tree.specs.Tree.{EndsAtSlash, IsPiece, IsFolderKey}
+use Rattle.std.proofs.lemmas.List.{append-nil, drop-take, get_or-drop, length-drop}
+use Rattle.name_tree.specs.Tree.{EndsAtSlash, IsFolderKey}
 use Rattle.name_tree.specs.Searching.{IsEnd}
-use Rattle.name_tree.proofs.Orders.{behind, inside, piece_ends, piece_some, folder_tail}
+use Rattle.name_tree.proofs.Orders.{behind, inside}
 
 -- no slash among the first bytes
 abbrev pub NoneBefore : ℕ → List ℕ → Type 0
@@ -73,8 +73,8 @@ piece_more name start end yet lt ne =
 -- pieces that end at a slash and begin one list are one
 pub one_piece : (p q u v : List ℕ) → EndsAtSlash p → EndsAtSlash q → IsFolderKey p → IsFolderKey q → p ≢ [] → q ≢ [] → p ++ u ≡ q ++ v → p ≡ q
 one_piece p q u v pe qe pf qf ps qs e = elim (behind p u q v e) [
-    | inl ([], w, x) ↦ sym (w ∙ append-nil p)
-    | inl (y ∷ c, w, x) ↦ absurd (inside p (y ∷ c) pf ps (λ h. cc) (subst EndsAtSlash w qe))
-    | inr ([], w, x) ↦ w ∙ append-nil q
-    | inr (y ∷ c, w, x) ↦ absurd (inside q (y ∷ c) qf qs (λ h. cc) (subst EndsAtSlash w pe))
-  ]
+  | inl ([], w, x) ↦ sym (w ∙ append-nil p)
+  | inl (y ∷ c, w, x) ↦ absurd (inside p (y ∷ c) pf ps (λ h. cc) (subst EndsAtSlash w qe))
+  | inr ([], w, x) ↦ w ∙ append-nil q
+  | inr (y ∷ c, w, x) ↦ absurd (inside q (y ∷ c) qf qs (λ h. cc) (subst EndsAtSlash w pe))
+]

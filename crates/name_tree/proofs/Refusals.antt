@@ -1,16 +1,15 @@
 -- Why a name is refused, by what the tree holds.
 use Rattle.std.specs.Prelude.{nat_le, nat_eq}
-use Rattle.std.proofs.Common.{◌≡◌, ◌≢◌, ℕ, zero, suc, ◌+◌, ◌-◌, ◌<◌, ◌≤◌, ◌⊎◌, Bool, true, false, not, ◌&&◌, ◌||◌, ◌==◌, if◌then◌else◌, List, [], ◌∷◌, ◌++◌, length, get_or, take, drop, refl, sym, ap, ◌∙◌, subst, arith, inl, inr, Option, Some, None}
+use Rattle.std.proofs.Common.{◌≡◌, ◌≢◌, ℕ, zero, suc, ◌<◌, ◌≤◌, Bool, true, false, not, ◌&&◌, ◌||◌, ◌==◌, if◌then◌else◌, List, [], ◌∷◌, ◌++◌, length, get_or, refl, sym, ap, ◌∙◌, arith, Some, None}
 use Rattle.std.proofs.lemmas.Bool.Decides.{nat_tests}
-use Rattle.std.proofs.lemmas.List.{append-nil, append_assoc}
+use Rattle.std.proofs.lemmas.List.{append-nil}
 use Rattle.std.proofs.lemmas.List.Folds.{list_any_at, list_any_none}
 use Rattle.std.specs.List.{list_any, list_all}
-use Rattle.std.specs.Cmp.Lexicographic.{bytes_decides, nat_list_eq_equiv}
-use Rattle.cook_bits.specs.Names.{is_same_name, each_with_first, with_first, is_plain_segment, segments_of, is_relative_name, IsRelativeName, proper_folders_of, holds_folder_of}
+use Rattle.std.specs.Cmp.Lexicographic.{bytes_decides}
+use Rattle.cook_bits.specs.Names.{is_same_name, each_with_first, with_first, is_plain_segment, segments_of, is_relative_name, proper_folders_of, holds_folder_of}
 use Rattle.name_tree.specs.Held.{is_among, is_folder_among, refusal_of}
 use Rattle.name_tree.specs.Tree.{IsFolderKey}
-use Rattle.name_tree.specs.declared.error.NameError.{NameError}
-use Rattle.name_tree.specs.declared.error.NameError.TheVariants.{Bad, Exists, UnderFile, OverFolder, NoMemory}
+use Rattle.name_tree.specs.declared.error.NameError.TheVariants.{Bad, Exists, UnderFile, OverFolder}
 
 decided : (b : Bool) → (b ≡ true → ⊥) → b ≡ false
 decided true f = absurd (f refl)
@@ -72,8 +71,8 @@ unfolding proper_folders_of
 no_folder test [] none = refl
 no_folder test (byte ∷ name) none =
     passed (byte == 47) test (each_with_first byte (proper_folders_of name))
-        (λ h. let slash : byte ≡ 47 = grind (arith, nat_tests) in none [] name (λ i. slash i ∷ name))
-        (any_each test byte (proper_folders_of name) ∙ no_folder (λ f. test (byte ∷ f)) name (λ front rest e. none (byte ∷ front) rest (λ i. byte ∷ e i)))
+    (λ h. let slash : byte ≡ 47 = grind (arith, nat_tests) in none [] name (λ i. slash i ∷ name))
+    (any_each test byte (proper_folders_of name) ∙ no_folder (λ f. test (byte ∷ f)) name (λ front rest e. none (byte ∷ front) rest (λ i. byte ∷ e i)))
 
 -- ---- names that are held
 

@@ -1,18 +1,18 @@
 -- What a search among the places of a tree keeps and finds.
-use Rattle.std.proofs.Common.{◌≡◌, ◌≢◌, ℕ, zero, suc, ◌+◌, ◌-◌, ◌<◌, ◌≤◌, ◌⊎◌, Bool, true, false, List, [], ◌∷◌, ◌++◌, length, get_or, take, drop, refl, sym, ap, ◌∙◌, subst, arith, inl, inr, Option, Some, None, if◌then◌else◌, ◌==◌}
-use Rattle.std.proofs.lemmas.Bool.{cases_lt, cases_eq}
+use Rattle.std.proofs.Common.{◌≡◌, ◌≢◌, ℕ, zero, suc, ◌+◌, ◌<◌, ◌≤◌, Bool, true, false, List, [], ◌∷◌, ◌++◌, length, get_or, take, drop, refl, sym, ap, ◌∙◌, subst, arith, inl, inr, Some, None, if◌then◌else◌, ◌==◌}
+use Rattle.std.proofs.lemmas.Bool.{cases_eq}
 use Rattle.std.proofs.lemmas.Bool.Decides.{nat_tests}
-use Rattle.std.proofs.lemmas.List.{append-nil, append_assoc, append_cancel_left, drop-take, length-take-le, length-append, length-drop, take-append-drop, drop_at, take_at, take-append-le, drop-append-le, take-take}
+use Rattle.std.proofs.lemmas.List.{append-nil, append_assoc, append_cancel_left, length-take-le, length-append, length-drop, take-append-drop, drop_at, take_at, take-take}
 use Rattle.std.specs.Ordering.{nat_cmp, is_lt}
 use Rattle.std.specs.declared.cmp.Ordering.TheVariants.{Less, Equal, Greater}
 use Rattle.std.specs.declared.cmp.Ordering.{Ordering}
 use Rattle.std.specs.Cmp.Lexicographic.{slice_cmp}
 use Rattle.name_tree.specs.declared.node.Node.{Node}
-use Rattle.name_tree.specs.Tree.{Below, AtMost, EndsAtSlash, IsPiece, IsFolderKey, Links, IsTree}
+use Rattle.name_tree.specs.Tree.{Below, AtMost, EndsAtSlash, IsPiece, IsFolderKey, IsTree}
 use Rattle.name_tree.specs.Nodes.{node_at, key_at, links_of, after_of, AreKeyed, AreNodes}
 use Rattle.name_tree.specs.Searching.{IsChildOrNone, IsBefore, IsPlace, IsFound, IsOnWay, IsEnd, IsDeepest, IsAbsent}
-use Rattle.name_tree.proofs.Orders.{not_below_itself, below_trans, below_at_most, at_most_below, at_most_trans, not_both, compared, front_at_most, behind, inside, piece_ends, piece_some, folder_tail, below_from_less, less_from_below}
-use Rattle.name_tree.proofs.Trees.{LeadsTo, leads, begins}
+use Rattle.name_tree.proofs.Orders.{not_below_itself, below_trans, at_most_below, not_both, compared, front_at_most, inside, piece_ends, piece_some, folder_tail, below_from_less, less_from_below}
+use Rattle.name_tree.proofs.Trees.{LeadsTo, leads}
 use Rattle.name_tree.proofs.Walks.{lower}
 use Rattle.name_tree.proofs.Pieces.{one_piece}
 
@@ -35,10 +35,10 @@ below_lt xs ys b = ap is_lt (less_from_below xs ys b)
 
 pub not_lt : (xs ys : List ℕ) → is_lt (slice_cmp nat_cmp xs ys) ≡ false → AtMost ys xs
 not_lt xs ys e = elim (compared xs ys) [
-    | inl same ↦ inl (sym same)
-    | inr (inl b) ↦ let yes = below_lt xs ys b in let no : true ≡ false = sym yes ∙ e in cc
-    | inr (inr b) ↦ inr b
-  ]
+  | inl same ↦ inl (sym same)
+  | inr (inl b) ↦ let yes = below_lt xs ys b in let no : true ≡ false = sym yes ∙ e in cc
+  | inr (inr b) ↦ inr b
+]
 
 not_more : (a b : Bool) → (b ≡ true → a ≡ true) → (if b then 1 else 0) ≤ (if a then 1 else 0)
 not_more true true f = omega arith
@@ -58,20 +58,21 @@ pub count_falls : (key : ℕ → List ℕ) (n j : ℕ) (k : List ℕ) → j < n 
 unfolding count_above
 count_falls key zero j k lt b = absurd (omega arith)
 count_falls key (suc n) j k lt b = elim (cases_eq j n) [
-    | inl same ↦
-        let fewer = counts_fewer key n k (key j) b in
-        let here : is_lt (slice_cmp nat_cmp k (key n)) ≡ true = below_lt k (key n) (subst (λ (i : ℕ). Below k (key i)) same b) in
-        let none : is_lt (slice_cmp nat_cmp (key j) (key n)) ≡ false = irreflexive (key j) (key n) (ap key same) in
-        rw (here, none) (omega arith)
-    | inr ne ↦
-        let rest = count_falls key n j k (omega arith) b in
-        let more = not_more (is_lt (slice_cmp nat_cmp k (key n))) (is_lt (slice_cmp nat_cmp (key j) (key n))) (λ h. below_lt k (key n) (below_trans k (key j) (key n) b (lt_below (key j) (key n) true h refl))) in
-        omega arith
-  ]
+  | inl same ↦
+      let fewer = counts_fewer key n k (key j) b in
+      let here : is_lt (slice_cmp nat_cmp k (key n)) ≡ true = below_lt k (key n) (subst (λ (i : ℕ). Below k (key i)) same b) in
+      let none : is_lt (slice_cmp nat_cmp (key j) (key n)) ≡ false = irreflexive (key j) (key n) (ap key same) in
+      rw (here, none) (omega arith)
+  | inr ne ↦
+      let rest = count_falls key n j k (omega arith) b in
+      let more = not_more (is_lt (slice_cmp nat_cmp k (key n))) (is_lt (slice_cmp nat_cmp (key j) (key n))) (λ h. below_lt k (key n) (below_trans k (key j) (key n) b (lt_below (key j) (key n) true h refl))) in
+      omega arith
+]
   where
     decided : (b : Bool) → (b ≡ true → ⊥) → b ≡ false
     decided true f = absurd (f refl)
     decided false f = refl
+
     irreflexive : (xs ys : List ℕ) → xs ≡ ys → is_lt (slice_cmp nat_cmp xs ys) ≡ false
     irreflexive xs ys e = decided (is_lt (slice_cmp nat_cmp xs ys)) (λ h. not_below_itself xs (subst (λ (l : List ℕ). Below xs l) (sym e) (lt_below xs ys true h refl)))
 
@@ -99,9 +100,9 @@ stands are = record { tree = are.tree; keyed = are.keyed; start = are.start }
 pub key_length : (names : List (List ℕ)) (nodes : List Node) → Stands names nodes → (i : ℕ) → i < length nodes → length (key_at names nodes i) ≡ (node_at nodes i).len
 unfolding key_at
 key_length names nodes are i lt = elim (cases_eq i 0) [
-    | inl zero_is ↦ rw zero_is (length-take-le (node_at nodes 0).len (get_or names (node_at nodes 0).name []) (let z = are.start in omega arith))
-    | inr ne ↦ let some : 0 < i = omega arith in length-take-le (node_at nodes i).len (get_or names (node_at nodes i).name []) (are.keyed i some lt).1
-  ]
+  | inl zero_is ↦ rw zero_is (length-take-le (node_at nodes 0).len (get_or names (node_at nodes 0).name []) (let z = are.start in omega arith))
+  | inr ne ↦ let some : 0 < i = omega arith in length-take-le (node_at nodes i).len (get_or names (node_at nodes i).name []) (are.keyed i some lt).1
+]
 
 module _ (names : List (List ℕ)) (nodes : List Node) (tree : IsTree (length nodes) (links_of names nodes)) where
   -- ---- along the siblings
@@ -116,28 +117,28 @@ module _ (names : List (List ℕ)) (nodes : List Node) (tree : IsTree (length no
 
   pub after_child : (parent before a : ℕ) → a ≡ after_of nodes parent before → parent < length nodes → IsChildOrNone nodes parent before → 0 < a → IsLater parent before a
   after_child parent before a e pl is some = elim (cases_eq before 0) [
-      | inl none ↦
-          let there : (node_at nodes parent).first_child ≡ a = sym (e ∙ after_none nodes parent before none) in
-          subst (λ (b : ℕ). IsLater parent b a) (sym none) (subst (λ (i : ℕ). IsLater parent 0 i) there (first_child_is parent pl (subst (λ (i : ℕ). 0 < i) (sym there) some)))
-      | inr ne ↦
-          let b : 0 < before = omega arith in
-          let there : (node_at nodes before).next_sibling ≡ a = sym (e ∙ after_some nodes parent before b) in
-          let i = is b in
-          let n = tree.next_is before b i.0 (subst (λ (i : ℕ). 0 < i) (sym there) some) in
-          subst (λ (i : ℕ). IsLater parent before i) there (n.0, n.1 ∙ i.1, n.2)
-    ]
+    | inl none ↦
+        let there : (node_at nodes parent).first_child ≡ a = sym (e ∙ after_none nodes parent before none) in
+        subst (λ (b : ℕ). IsLater parent b a) (sym none) (subst (λ (i : ℕ). IsLater parent 0 i) there (first_child_is parent pl (subst (λ (i : ℕ). 0 < i) (sym there) some)))
+    | inr ne ↦
+        let b : 0 < before = omega arith in
+        let there : (node_at nodes before).next_sibling ≡ a = sym (e ∙ after_some nodes parent before b) in
+        let i = is b in
+        let n = tree.next_is before b i.0 (subst (λ (i : ℕ). 0 < i) (sym there) some) in
+        subst (λ (i : ℕ). IsLater parent before i) there (n.0, n.1 ∙ i.1, n.2)
+  ]
 
   -- a child with the target's key, or above the place, is not passed over
   pub least_after : (parent before j : ℕ) → parent < length nodes → IsChildOrNone nodes parent before → (0 < before → Below (key_at names nodes before) (key_at names nodes j))
       → 0 < j → j < length nodes → (node_at nodes j).parent ≡ parent
       → (0 < after_of nodes parent before) × AtMost (key_at names nodes (after_of nodes parent before)) (key_at names nodes j)
   least_after parent before j pl is low some jl under = elim (cases_eq before 0) [
-      | inl none ↦ subst (λ (i : ℕ). (0 < i) × AtMost (key_at names nodes i) (key_at names nodes j)) (sym (after_none nodes parent before none)) (tree.first_least parent j some jl under)
-      | inr ne ↦
-          let b : 0 < before = omega arith in
-          let i = is b in
-          subst (λ (i : ℕ). (0 < i) × AtMost (key_at names nodes i) (key_at names nodes j)) (sym (after_some nodes parent before b)) (tree.next_least before j b i.0 some jl (under ∙ sym i.1) (low b))
-    ]
+    | inl none ↦ subst (λ (i : ℕ). (0 < i) × AtMost (key_at names nodes i) (key_at names nodes j)) (sym (after_none nodes parent before none)) (tree.first_least parent j some jl under)
+    | inr ne ↦
+        let b : 0 < before = omega arith in
+        let i = is b in
+        subst (λ (i : ℕ). (0 < i) × AtMost (key_at names nodes i) (key_at names nodes j)) (sym (after_some nodes parent before b)) (tree.next_least before j b i.0 some jl (under ∙ sym i.1) (low b))
+  ]
 
   pub place_finds : (parent before : ℕ) (target : List ℕ) (j : ℕ) → parent < length nodes → IsPlace names nodes parent target before → 0 < j → IsFound names nodes parent target j
       → (0 < after_of nodes parent before) × (key_at names nodes (after_of nodes parent before) ≡ target)
@@ -174,6 +175,7 @@ module _ (names : List (List ℕ)) (nodes : List Node) (tree : IsTree (length no
     where
       same : (way : LeadsTo (length nodes) (links_of names nodes) p j) → way.child ≡ j → (0 < j) × ((node_at nodes j).parent ≡ p)
       same way s = (subst (λ (i : ℕ). 0 < i) s way.some, ap (λ (i : ℕ). (node_at nodes i).parent) (sym s) ∙ way.under)
+
       at_end : (way : LeadsTo (length nodes) (links_of names nodes) p j) (a rest : List ℕ) → IsPiece a → key_at names nodes way.child ≡ key_at names nodes p ++ a → IsFolderKey (key_at names nodes way.child)
           → key_at names nodes j ≡ key_at names nodes way.child ++ rest → piece ≡ a ++ rest → way.child ≡ j
       at_end way a [] isa ea f ej cut = tree.one way.child j way.within jl (sym (ej ∙ append-nil (key_at names nodes way.child)))
@@ -201,11 +203,11 @@ folder_joined q (y ∷ c) some f = folder_front q y c f
 module _ (names : List (List ℕ)) (nodes : List Node) (are : Stands names nodes) where
   pub way_root : (name : List ℕ) → 0 < length nodes → IsOnWay names nodes name 0
   way_root name lt = record {
-      within = lt;
-      folder = subst IsFolderKey (sym are.tree.root) tt;
-      rest = name;
-      is = ap (λ (k : List ℕ). k ++ name) (sym are.tree.root);
-    }
+    within = lt;
+    folder = subst IsFolderKey (sym are.tree.root) tt;
+    rest = name;
+    is = ap (λ (k : List ℕ). k ++ name) (sym are.tree.root);
+  }
 
   pub record IsUp (last p : ℕ) : Type 0 where
     pub within : p < length nodes
@@ -226,16 +228,16 @@ module _ (names : List (List ℕ)) (nodes : List Node) (are : Stands names nodes
 
   pub below_root : (p shared : ℕ) (n : Node) → n ≡ node_at nodes p → shared < n.len → 0 < p
   below_root p shared n e lt = elim (cases_eq p 0) [
-      | inl zero_is ↦ let none : n.len ≡ 0 = ap (λ (m : Node). m.len) e ∙ ap (λ (i : ℕ). (node_at nodes i).len) zero_is ∙ are.start in absurd (omega arith)
-      | inr ne ↦ omega arith
-    ]
+    | inl zero_is ↦ let none : n.len ≡ 0 = ap (λ (m : Node). m.len) e ∙ ap (λ (i : ℕ). (node_at nodes i).len) zero_is ∙ are.start in absurd (omega arith)
+    | inr ne ↦ omega arith
+  ]
 
   pub way_shared : (p : ℕ) (name k rest : List ℕ) (shared : ℕ) (n : Node) → p < length nodes → IsFolderKey (key_at names nodes p) → k ≡ key_at names nodes p ++ rest
       → take shared k ≡ take shared name → n ≡ node_at nodes p → n.len ≤ shared → IsOnWay names nodes name p
   way_shared p name k rest shared n pl folder part same e le =
       let len : length (key_at names nodes p) ≡ n.len = key_length names nodes are p pl ∙ ap (λ (m : Node). m.len) (sym e) in
       let front : take n.len name ≡ key_at names nodes p =
-          sym (take-take n.len shared name le) ∙ ap (take n.len) (sym same) ∙ take-take n.len shared k le ∙ ap (take n.len) part ∙ take_at (key_at names nodes p) rest n.len len in
+      sym (take-take n.len shared name le) ∙ ap (take n.len) (sym same) ∙ take-take n.len shared k le ∙ ap (take n.len) part ∙ take_at (key_at names nodes p) rest n.len len in
       record {
         within = pl;
         folder = folder;
@@ -277,7 +279,7 @@ module _ (names : List (List ℕ)) (nodes : List Node) (are : Stands names nodes
       let k = key_at names nodes p in
       let step = way_step name p n end way e is in
       let cut : piece ++ rest ≡ q ++ drop end name = append_cancel_left k (piece ++ rest) (q ++ drop end name)
-          (sym (append_assoc k piece rest) ∙ sym whole ∙ sym (take-append-drop end name) ∙ ap (λ (l : List ℕ). l ++ drop end name) step ∙ append_assoc k q (drop end name)) in
+      (sym (append_assoc k piece rest) ∙ sym whole ∙ sym (take-append-drop end name) ∙ ap (λ (l : List ℕ). l ++ drop end name) step ∙ append_assoc k q (drop end name)) in
       let same : piece ≡ q = one_piece piece q rest (drop end name) (piece_ends piece isp) is.2 folder is.3 (piece_some piece isp) (some_piece name n.len end is.0 is.1) cut in
       let there : take end name ≡ k ++ piece = step ∙ ap (λ (l : List ℕ). k ++ l) (sym same) in
       absent_child names nodes are.tree p piece way.within way.folder isp (λ j some found. none j some (subst (λ (l : List ℕ). IsFound names nodes p l j) (sym there) found))

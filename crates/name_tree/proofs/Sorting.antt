@@ -1,13 +1,13 @@
 -- Names in byte order, with their numbers.
-use Rattle.std.proofs.Common.{◌≡◌, ◌≢◌, ℕ, zero, suc, ◌+◌, ◌<◌, ◌≤◌, ◌⊎◌, Bool, true, false, List, [], ◌∷◌, ◌++◌, length, get_or, map, refl, sym, ap, ◌∙◌, subst, arith, inl, inr, if◌then◌else◌}
+use Rattle.std.proofs.Common.{◌≡◌, ◌≢◌, ℕ, zero, suc, ◌+◌, ◌<◌, ◌⊎◌, Bool, true, false, List, [], ◌∷◌, length, get_or, refl, sym, ap, ◌∙◌, subst, arith, inl, inr, if◌then◌else◌}
 use Rattle.std.specs.List.{filter, enumerate_from}
 use Rattle.std.specs.Ordering.{nat_cmp, is_lt, is_le, ordering_reverse}
 use Rattle.std.specs.declared.cmp.Ordering.{Ordering}
 use Rattle.std.specs.declared.cmp.Ordering.TheVariants.{Less, Equal, Greater}
-use Rattle.std.specs.Cmp.Lexicographic.{slice_cmp, nat_list_cmp_total, texts_ties, nat_list_eq_equiv}
+use Rattle.std.specs.Cmp.Lexicographic.{slice_cmp, nat_list_cmp_total}
 use Rattle.name_tree.specs.Tree.{Below, AtMost}
 use Rattle.name_tree.specs.Held.{Numbered, placed, in_order}
-use Rattle.name_tree.proofs.Orders.{not_below_itself, below_trans, below_at_most, at_most_below, not_both, compared, below_from_less, less_from_below}
+use Rattle.name_tree.proofs.Orders.{not_below_itself, below_trans, compared, below_from_less, less_from_below}
 use Rattle.name_tree.proofs.Searches.{lt_below, not_lt}
 
 abbrev pub IsMember : Numbered → List Numbered → Type 0
@@ -70,9 +70,9 @@ placed_rising x (y ∷ ys) r apart = by (is_lt (slice_cmp nat_cmp x.1 y.1)) refl
     by : (b : Bool) → is_lt (slice_cmp nat_cmp x.1 y.1) ≡ b → IsRising (placed x ys) → IsRising (if b then x ∷ y ∷ ys else y ∷ placed x ys)
     by true e more = let low = lt_below x.1 y.1 true e refl in ((low, above_more x.1 y.1 ys low r.0), (r.0, r.1))
     by false e more = elim (not_lt x.1 y.1 e) [
-        | inl same ↦ absurd (apart y (inl refl) same)
-        | inr low ↦ (all_placed y.1 x ys low r.0, more)
-      ]
+      | inl same ↦ absurd (apart y (inl refl) same)
+      | inr low ↦ (all_placed y.1 x ys low r.0, more)
+    ]
 
 pub in_order_out : (xs : List Numbered) (e : Numbered) → IsMember e (in_order xs) → IsMember e xs
 in_order_out [] e m = m
@@ -107,13 +107,14 @@ numbered_out (x ∷ names) n e (inr m) =
 
 pub numbered_apart : (names : List (List ℕ)) (n : ℕ) → ((i j : ℕ) → i < length names → j < length names → get_or names i [] ≡ get_or names j [] → i ≡ j) → AreApart (enumerate_from n names)
 numbered_apart [] n one = tt
-numbered_apart (x ∷ names) n one =
-    (λ e m same.
-        let w = numbered_out names (n + 1) e m in
-        let at : get_or names w.0 [] ≡ x = sym (ap (λ (y : Numbered). y.1) w.2) ∙ same in
-        let no : suc w.0 ≡ 0 = one (suc w.0) 0 (let lt = w.1 in omega arith) (omega arith) at in
-        absurd (omega arith),
-     numbered_apart names (n + 1) (λ i j a b e. let s : suc i ≡ suc j = one (suc i) (suc j) (omega arith) (omega arith) e in omega arith))
+numbered_apart (x ∷ names) n one = (
+  λ e m same.
+      let w = numbered_out names (n + 1) e m in
+      let at : get_or names w.0 [] ≡ x = sym (ap (λ (y : Numbered). y.1) w.2) ∙ same in
+      let no : suc w.0 ≡ 0 = one (suc w.0) 0 (let lt = w.1 in omega arith) (omega arith) at in
+      absurd (omega arith),
+  numbered_apart names (n + 1) (λ i j a b e. let s : suc i ≡ suc j = one (suc i) (suc j) (omega arith) (omega arith) e in omega arith),
+)
 
 -- ---- from a key on
 
@@ -141,10 +142,10 @@ gt_of a b low = by (slice_cmp nat_cmp b a) (less_from_below b a low)
 
 pub le_at : (a b : List ℕ) → is_le (slice_cmp nat_cmp a b) ≡ true → AtMost a b
 le_at a b e = elim (compared a b) [
-    | inl same ↦ inl same
-    | inr (inl low) ↦ inr low
-    | inr (inr high) ↦ let no : true ≡ false = sym e ∙ gt_of a b high in cc
-  ]
+  | inl same ↦ inl same
+  | inr (inl low) ↦ inr low
+  | inr (inr high) ↦ let no : true ≡ false = sym e ∙ gt_of a b high in cc
+]
 
 pub at_le : (a b : List ℕ) → AtMost a b → is_le (slice_cmp nat_cmp a b) ≡ true
 at_le = le_of

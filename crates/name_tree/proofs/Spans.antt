@@ -1,7 +1,6 @@
 -- A text more leaves the texts before it.
-use Rattle.std.proofs.Common.{◌≡◌, ℕ, suc, ◌+◌, ◌-◌, ◌≤◌, List, [], ◌∷◌, ◌++◌, length, map, get_or, take, drop, refl, sym, ap, ◌∙◌, arith, slice_range}
-use Rattle.std.specs.List.{All}
-use Rattle.std.proofs.lemmas.List.{map-append, take-append-le, drop-append-le, length-drop, drop_at, take_all, append-nil}
+use Rattle.std.proofs.Common.{◌≡◌, ℕ, suc, ◌+◌, ◌-◌, ◌≤◌, List, [], ◌∷◌, ◌++◌, length, take, drop, refl, sym, ◌∙◌, arith}
+use Rattle.std.proofs.lemmas.List.{map-append, take-append-le, drop-append-le, length-drop, drop_at, take_all}
 use Rattle.name_tree.specs.declared.texts.Span.{Span}
 use Rattle.name_tree.specs.Texts.{text_at, texts_of, AreWithin}
 

@@ -1,30 +1,30 @@
 -- What a walk has left, step by step.
-use Rattle.std.proofs.Common.{◌≡◌, ◌≢◌, ℕ, zero, suc, ◌+◌, ◌<◌, ◌≤◌, ◌⊎◌, Bool, true, false, List, [], ◌∷◌, ◌++◌, length, get_or, map, refl, sym, ap, ◌∙◌, subst, arith, inl, inr, if◌then◌else◌, ◌==◌}
-use Rattle.std.proofs.lemmas.Bool.{cases_lt, cases_eq}
+use Rattle.std.proofs.Common.{◌≡◌, ◌≢◌, ℕ, suc, ◌+◌, ◌<◌, Bool, false, List, [], ◌∷◌, ◌++◌, length, get_or, map, refl, sym, ap, ◌∙◌, subst, arith, inl, inr, ◌==◌}
+use Rattle.std.proofs.lemmas.Bool.{cases_eq}
 use Rattle.std.proofs.lemmas.Bool.Decides.{nat_tests}
 use Rattle.std.specs.List.{filter, enumerate_from}
 use Rattle.std.specs.Ordering.{nat_cmp, is_le}
 use Rattle.std.specs.Cmp.Lexicographic.{slice_cmp}
 use Rattle.name_tree.specs.declared.node.Node.{Node}
-use Rattle.name_tree.specs.Tree.{Below, AtMost, IsFolderKey, IsTree}
-use Rattle.name_tree.specs.Nodes.{node_at, key_at, links_of, AreLinked, HasPlace, AreNodes}
+use Rattle.name_tree.specs.Tree.{Below, AtMost, IsFolderKey}
+use Rattle.name_tree.specs.Nodes.{node_at, key_at, links_of, AreLinked, AreNodes}
 use Rattle.name_tree.specs.Held.{Numbered, in_order, walk_of}
-use Rattle.name_tree.specs.Walking.{numbers_from, left_of, IsFile, IsWalk, IsLeastAbove, IsFirst, IsNextFile}
+use Rattle.name_tree.specs.Walking.{numbers_from, left_of, IsFile, IsLeastAbove, IsFirst, IsNextFile}
 use Rattle.name_tree.proofs.Orders.{below_at_most, at_most_trans, front_at_most}
 use Rattle.name_tree.proofs.Trees.{leads}
-use Rattle.name_tree.proofs.Walks.{IsClimbing, starts, climbs, over, rises, last, deeper, lower}
+use Rattle.name_tree.proofs.Walks.{IsClimbing, over, rises, last, deeper, lower}
 use Rattle.name_tree.proofs.Sorting.{IsMember, IsRising, in_order_in, in_order_out, in_order_rising, numbered_in, numbered_out, numbered_apart, le_at, at_le, filter_all, picks}
 use Rattle.name_tree.proofs.Free.{file_key}
 
 pub linked_of : (names : List (List ℕ)) (nodes : List Node) → AreNodes names nodes → AreLinked nodes
 linked_of names nodes are = record {
-    up = are.tree.up;
-    down = λ i lt some.
-        let f = are.tree.first_is i lt some in
-        let u = are.tree.up (node_at nodes i).first_child some f.0 in
-        (subst (λ (p : ℕ). p < (node_at nodes i).first_child) f.1 u, f.0);
-    along = λ i some lt more. (are.tree.next_is i some lt more).0;
-  }
+  up = are.tree.up;
+  down = λ i lt some.
+      let f = are.tree.first_is i lt some in
+      let u = are.tree.up (node_at nodes i).first_child some f.0 in
+      (subst (λ (p : ℕ). p < (node_at nodes i).first_child) f.1 u, f.0);
+  along = λ i some lt more. (are.tree.next_is i some lt more).0;
+}
 
 module _ (names : List (List ℕ)) (nodes : List Node) (are : AreNodes names nodes) where
   one_number : (i j : ℕ) → i < length names → j < length names → get_or names i [] ≡ get_or names j [] → i ≡ j
@@ -77,8 +77,8 @@ module _ (names : List (List ℕ)) (nodes : List Node) (are : AreNodes names nod
         | inr ne ↦
             let more : 0 < next = omega arith in
             let w = picks es entry (λ e. is_le (slice_cmp nat_cmp (key_at names nodes next) e.1)) rising m
-                (λ e h f. below_at_most k (key_at names nodes next) e.1 (is.above more) (le_at (key_at names nodes next) e.1 f))
-                (λ e h low. let x = entry_file e h in at_le (key_at names nodes next) e.1 (subst (λ (l : List ℕ). AtMost (key_at names nodes next) l) x.3 (is.least more x.0 x.1 x.2 (subst (λ (l : List ℕ). Below k l) (sym x.3) low)))) in
+            (λ e h f. below_at_most k (key_at names nodes next) e.1 (is.above more) (le_at (key_at names nodes next) e.1 f))
+            (λ e h low. let x = entry_file e h in at_le (key_at names nodes next) e.1 (subst (λ (l : List ℕ). AtMost (key_at names nodes next) l) x.3 (is.least more x.0 x.1 x.2 (subst (λ (l : List ℕ). Below k l) (sym x.3) low)))) in
             left_some at some ∙ ap (map (λ (e : Numbered). e.0)) w ∙ ap (λ (l : List ℕ). (node_at nodes at).name ∷ l) (sym (left_some next more))
       ]
 
@@ -101,9 +101,9 @@ module _ (names : List (List ℕ)) (nodes : List Node) (are : AreNodes names nod
   -- a place without children is a file
   pub no_children : (at : ℕ) → 0 < at → at < length nodes → (node_at nodes at).first_child ≡ 0 → IsFile names nodes at
   no_children at some lt none = record {
-      within = lt;
-      no_folder = λ f. let h = are.full at some lt f in let g : 0 < (node_at nodes at).first_child = h in absurd (omega arith);
-    }
+    within = lt;
+    no_folder = λ f. let h = are.full at some lt f in let g : 0 < (node_at nodes at).first_child = h in absurd (omega arith);
+  }
 
   -- ---- the file behind a file
 
@@ -126,21 +126,23 @@ module _ (names : List (List ℕ)) (nodes : List Node) (are : AreNodes names nod
       nothing_below : (k l : List ℕ) → l ≡ [] → Below k l → ⊥
       nothing_below [] l e b = subst (λ (x : List ℕ). Below [] x) e b
       nothing_below (x ∷ k) l e b = subst (λ (y : List ℕ). Below (x ∷ k) y) e b
+
       nonzero : (result : ℕ) → Below (key_at names nodes at) (key_at names nodes result) → 0 < result
       nonzero result b = elim (cases_eq result 0) [
-          | inl z ↦ absurd (nothing_below (key_at names nodes at) (key_at names nodes result) (ap (key_at names nodes) z ∙ are.tree.root) b)
-          | inr ne ↦ omega arith
-        ]
+        | inl z ↦ absurd (nothing_below (key_at names nodes at) (key_at names nodes result) (ap (key_at names nodes) z ∙ are.tree.root) b)
+        | inr ne ↦ omega arith
+      ]
+
       zero_no : (result : ℕ) → 0 < result → result ≡ 0 → ⊥
       zero_no result h e = omega arith
 
   pub next_none : (at : ℕ) → IsClimbing (length nodes) (links_of names nodes) at 0 → IsNextFile names nodes at 0
   next_none at climb = record {
-      file = λ h. absurd (omega arith);
-      above = λ h. absurd (omega arith);
-      least = λ h. absurd (omega arith);
-      last = λ h x lt b. last are.tree at climb x lt b;
-    }
+    file = λ h. absurd (omega arith);
+    above = λ h. absurd (omega arith);
+    least = λ h. absurd (omega arith);
+    last = λ h x lt b. last are.tree at climb x lt b;
+  }
 
   -- ---- the start
 
@@ -158,6 +160,7 @@ module _ (names : List (List ℕ)) (nodes : List Node) (are : AreNodes names nod
           let way = leads are.tree (suc p.place) 0 p.place (key_at names nodes p.place) (omega arith) zl p.within (subst IsFolderKey (sym are.tree.root) tt) whole filled in
           let some : 0 < (node_at nodes 0).first_child = (are.tree.first_least 0 way.child way.some way.within way.under).0 in
           omega arith
+
       by : (xs : List Numbered) → ((e : Numbered) → IsMember e xs → ⊥) → xs ≡ []
       by [] f = refl
       by (x ∷ xs) f = absurd (f x (inl refl))
@@ -165,19 +168,20 @@ module _ (names : List (List ℕ)) (nodes : List Node) (are : AreNodes names nod
   pub walk_starts : (first : ℕ) → 0 < length nodes → IsFirst names nodes 0 first → (node_at nodes first).first_child ≡ 0 → left_of names nodes first ≡ walk_of names
   unfolding numbers_from walk_of
   walk_starts first lt is none = elim (cases_eq first 0) [
-      | inl z ↦
-          let empty = no_names (ap (λ (x : ℕ). (node_at nodes x).first_child) (sym z) ∙ none) in
-          left_none first z ∙ ap (map (λ (e : Numbered). e.0)) (sym empty)
-      | inr ne ↦
-          let k = key_at names nodes first in
-          let all = filter_all (λ e. is_le (slice_cmp nat_cmp k e.1)) (in_order (enumerate_from 0 names)) (λ e m.
-              let x = entry_file e m in
-              at_le k e.1 (subst (λ (l : List ℕ). AtMost k l) x.3 (is.least [] (λ y yl f low. inr_or y) x.0 x.1 x.2 (filled (key_at names nodes x.0) x.2)))) in
-          left_some first (omega arith) ∙ ap (map (λ (e : Numbered). e.0)) all
-    ]
+    | inl z ↦
+        let empty = no_names (ap (λ (x : ℕ). (node_at nodes x).first_child) (sym z) ∙ none) in
+        left_none first z ∙ ap (map (λ (e : Numbered). e.0)) (sym empty)
+    | inr ne ↦
+        let k = key_at names nodes first in
+        let all = filter_all (λ e. is_le (slice_cmp nat_cmp k e.1)) (in_order (enumerate_from 0 names)) (λ e m.
+        let x = entry_file e m in
+        at_le k e.1 (subst (λ (l : List ℕ). AtMost k l) x.3 (is.least [] (λ y yl f low. inr_or y) x.0 x.1 x.2 (filled (key_at names nodes x.0) x.2)))) in
+        left_some first (omega arith) ∙ ap (map (λ (e : Numbered). e.0)) all
+  ]
     where
       inr_or : (y : ℕ) → AtMost (key_at names nodes 0) (key_at names nodes y)
       inr_or y = subst (λ (l : List ℕ). AtMost l (key_at names nodes y)) (sym are.tree.root) (front_at_most [] (key_at names nodes y))
+
       filled : (l : List ℕ) → (IsFolderKey l → ⊥) → Below [] l
       filled [] f = absurd (f tt)
       filled (x ∷ l) f = tt

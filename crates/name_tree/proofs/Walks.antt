@@ -1,8 +1,8 @@
 -- The place behind a leaf, in byte order of keys.
-use Rattle.std.proofs.Common.{◌≡◌, ◌≢◌, ℕ, zero, suc, ◌+◌, ◌<◌, ◌≤◌, ◌⊎◌, List, [], ◌∷◌, ◌++◌, refl, sym, ap, ◌∙◌, subst, arith, inl, inr}
+use Rattle.std.proofs.Common.{◌≡◌, ◌≢◌, ℕ, suc, ◌<◌, ◌⊎◌, List, [], ◌∷◌, ◌++◌, refl, sym, ap, ◌∙◌, subst, arith, inl, inr}
 use Rattle.std.proofs.lemmas.List.{append-nil, append_assoc, append_cancel_left}
-use Rattle.name_tree.specs.Tree.{Below, AtMost, EndsAtSlash, IsPiece, IsFolderKey, IsChildKey, Links, IsTree}
-use Rattle.name_tree.proofs.Orders.{not_below_itself, below_trans, below_at_most, at_most_below, at_most_trans, not_both, compared, front_at_most, Splits, splits_below, beside, fronts, folder_tail, inside, piece_ends, piece_some}
+use Rattle.name_tree.specs.Tree.{Below, AtMost, EndsAtSlash, IsPiece, IsFolderKey, Links, IsTree}
+use Rattle.name_tree.proofs.Orders.{not_below_itself, below_at_most, at_most_trans, not_both, compared, front_at_most, splits_below, beside, fronts, folder_tail, inside, piece_ends, piece_some}
 use Rattle.name_tree.proofs.Trees.{LeadsTo, leads}
 
 -- nothing above the leaf is under the place, a folder
@@ -61,9 +61,9 @@ module _ {count : ℕ} {t : Links} (tree : IsTree count t) where
 
   way_rest : (p x : ℕ) (way : LeadsTo count t p x) → (rest : List ℕ) × (t.key x ≡ t.key way.child ++ rest) × ((rest ≡ []) ⊎ IsFolderKey (t.key way.child))
   way_rest p x way = elim way.is [
-      | inl same ↦ ([], ap t.key (sym same) ∙ sym (append-nil (t.key way.child)), inl refl)
-      | inr more ↦ (more.0, more.1, inr more.2)
-    ]
+    | inl same ↦ ([], ap t.key (sym same) ∙ sym (append-nil (t.key way.child)), inl refl)
+    | inr more ↦ (more.0, more.1, inr more.2)
+  ]
 
   above : (leaf c x : ℕ) (rest : List ℕ) → 0 < c → IsClimbing count t leaf c → x < count → Below (t.key leaf) (t.key x) → t.key x ≡ t.key (t.parent c) ++ rest → IsAbove count t c x
   above leaf c x rest some climb xl b e =
@@ -77,27 +77,27 @@ module _ {count : ℕ} {t : Links} (tree : IsTree count t) where
       let most : AtMost (t.key a) (t.key x) = subst (λ (k : List ℕ). AtMost (t.key a) k) (sym w.1) (front_at_most (t.key a) w.0) in
       elim (compared (t.key c) (t.key a)) [
         | inl same ↦ elim w.2 [
-            | inl none ↦
-                let is : t.key x ≡ t.key c = w.1 ∙ ap (λ (l : List ℕ). t.key a ++ l) none ∙ append-nil (t.key a) ∙ sym same in
-                absurd (not_both (t.key leaf) (t.key x) b (subst (λ (k : List ℕ). AtMost k (t.key leaf)) (sym is) (self_at_most leaf c climb)))
-            | inr folder ↦ absurd (climb.past (subst IsFolderKey (sym same) folder) x xl b w.0 (w.1 ∙ ap (λ (k : List ℕ). k ++ w.0) (sym same)))
-          ]
+          | inl none ↦
+              let is : t.key x ≡ t.key c = w.1 ∙ ap (λ (l : List ℕ). t.key a ++ l) none ∙ append-nil (t.key a) ∙ sym same in
+              absurd (not_both (t.key leaf) (t.key x) b (subst (λ (k : List ℕ). AtMost k (t.key leaf)) (sym is) (self_at_most leaf c climb)))
+          | inr folder ↦ absurd (climb.past (subst IsFolderKey (sym same) folder) x xl b w.0 (w.1 ∙ ap (λ (k : List ℕ). k ++ w.0) (sym same)))
+        ]
         | inr (inl more) ↦ record { child = a; some = way.some; within = way.within; under = way.under; above = more; leads = most }
         | inr (inr less) ↦ elim (beside (t.key a) (t.key c) less) [
-            | inl part ↦ elim w.2 [
-                | inl none ↦
-                    let is : t.key x ≡ t.key a = w.1 ∙ ap (λ (l : List ℕ). t.key a ++ l) none ∙ append-nil (t.key a) in
-                    let low : Below (t.key x) (t.key leaf) = below_at_most (t.key x) (t.key c) (t.key leaf) (subst (λ (k : List ℕ). Below k (t.key c)) (sym is) less) (self_at_most leaf c climb) in
-                    absurd (not_both (t.key leaf) (t.key x) b (inr low))
-                | inr folder ↦ absurd (not_inside a c part.0 way.some way.within some climb.within way.under folder part.1
-                    (λ none. not_below_itself (t.key a) (subst (λ (k : List ℕ). Below (t.key a) k) (part.1 ∙ ap (λ (l : List ℕ). t.key a ++ l) none ∙ append-nil (t.key a)) less)))
-              ]
-            | inr split ↦
-                let low : Below (t.key a ++ w.0) (t.key c ++ climb.rest) = splits_below (t.key a) (t.key c) w.0 climb.rest split in
-                let low2 : Below (t.key x) (t.key c ++ climb.rest) = subst (λ (k : List ℕ). Below k (t.key c ++ climb.rest)) (sym w.1) low in
-                let low3 : Below (t.key x) (t.key leaf) = subst (λ (k : List ℕ). Below (t.key x) k) (sym climb.part) low2 in
-                absurd (not_both (t.key leaf) (t.key x) b (inr low3))
+          | inl part ↦ elim w.2 [
+            | inl none ↦
+                let is : t.key x ≡ t.key a = w.1 ∙ ap (λ (l : List ℕ). t.key a ++ l) none ∙ append-nil (t.key a) in
+                let low : Below (t.key x) (t.key leaf) = below_at_most (t.key x) (t.key c) (t.key leaf) (subst (λ (k : List ℕ). Below k (t.key c)) (sym is) less) (self_at_most leaf c climb) in
+                absurd (not_both (t.key leaf) (t.key x) b (inr low))
+            | inr folder ↦ absurd (not_inside a c part.0 way.some way.within some climb.within way.under folder part.1
+                (λ none. not_below_itself (t.key a) (subst (λ (k : List ℕ). Below (t.key a) k) (part.1 ∙ ap (λ (l : List ℕ). t.key a ++ l) none ∙ append-nil (t.key a)) less)))
           ]
+          | inr split ↦
+              let low : Below (t.key a ++ w.0) (t.key c ++ climb.rest) = splits_below (t.key a) (t.key c) w.0 climb.rest split in
+              let low2 : Below (t.key x) (t.key c ++ climb.rest) = subst (λ (k : List ℕ). Below k (t.key c ++ climb.rest)) (sym w.1) low in
+              let low3 : Below (t.key x) (t.key leaf) = subst (λ (k : List ℕ). Below (t.key x) k) (sym climb.part) low2 in
+              absurd (not_both (t.key leaf) (t.key x) b (inr low3))
+        ]
       ]
 
   -- the last child: on to the parent
@@ -120,12 +120,12 @@ module _ {count : ℕ} {t : Links} (tree : IsTree count t) where
 
   pub starts : (leaf : ℕ) → leaf < count → (IsFolderKey (t.key leaf) → ⊥) → IsClimbing count t leaf leaf
   starts leaf within is = record {
-      within = within;
-      rest = [];
-      part = sym (append-nil (t.key leaf));
-      folder = inl refl;
-      past = λ f x xl b rest e. absurd (is f);
-    }
+    within = within;
+    rest = [];
+    part = sym (append-nil (t.key leaf));
+    folder = inl refl;
+    past = λ f x xl b rest e. absurd (is f);
+  }
 
   pub over : (leaf c : ℕ) → 0 < c → IsClimbing count t leaf c → 0 < t.next c → IsLeast count t (λ x. Below (t.key leaf) (t.key x)) (t.next c)
   over leaf c some climb next x xl is b =
@@ -154,13 +154,13 @@ module _ {count : ℕ} {t : Links} (tree : IsTree count t) where
             let e : t.key leaf ≡ t.key c = climb.part ∙ ap (λ (l : List ℕ). t.key c ++ l) none ∙ append-nil (t.key c) in
             subst (λ (k : List ℕ). Below k (t.key d)) (sym e) n.2
         | inr folder ↦ elim (beside (t.key c) (t.key d) n.2) [
-            | inl part ↦ absurd (not_inside c d part.0 some climb.within next n.0 (sym n.1) folder part.1
-                (λ none. not_below_itself (t.key c) (subst (λ (k : List ℕ). Below (t.key c) k) (part.1 ∙ ap (λ (l : List ℕ). t.key c ++ l) none ∙ append-nil (t.key c)) n.2)))
-            | inr split ↦
-                let low : Below (t.key c ++ climb.rest) (t.key d ++ []) = splits_below (t.key c) (t.key d) climb.rest [] split in
-                let low2 : Below (t.key c ++ climb.rest) (t.key d) = subst (λ (k : List ℕ). Below (t.key c ++ climb.rest) k) (append-nil (t.key d)) low in
-                subst (λ (k : List ℕ). Below k (t.key d)) (sym climb.part) low2
-          ]
+          | inl part ↦ absurd (not_inside c d part.0 some climb.within next n.0 (sym n.1) folder part.1
+              (λ none. not_below_itself (t.key c) (subst (λ (k : List ℕ). Below (t.key c) k) (part.1 ∙ ap (λ (l : List ℕ). t.key c ++ l) none ∙ append-nil (t.key c)) n.2)))
+          | inr split ↦
+              let low : Below (t.key c ++ climb.rest) (t.key d ++ []) = splits_below (t.key c) (t.key d) climb.rest [] split in
+              let low2 : Below (t.key c ++ climb.rest) (t.key d) = subst (λ (k : List ℕ). Below (t.key c ++ climb.rest) k) (append-nil (t.key d)) low in
+              subst (λ (k : List ℕ). Below k (t.key d)) (sym climb.part) low2
+        ]
       ]
 
   -- nothing is above a leaf whose way up has no next sibling
@@ -175,19 +175,19 @@ module _ {count : ℕ} {t : Links} (tree : IsTree count t) where
       elim (least x xl is b) [
         | inl same ↦ absurd (is (subst IsFolderKey same folder))
         | inr less ↦ elim (beside (t.key d) (t.key x) less) [
-            | inl part ↦
-                let more : part.0 ≢ [] = λ none. not_below_itself (t.key d) (subst (λ (k : List ℕ). Below (t.key d) k) (part.1 ∙ ap (λ (l : List ℕ). t.key d ++ l) none ∙ append-nil (t.key d)) less) in
-                let way = leads tree (suc x) d x part.0 (omega arith) dl xl folder part.1 more in
-                let w = way_rest d x way in
-                let most : AtMost (t.key way.child) (t.key x) = subst (λ (k : List ℕ). AtMost (t.key way.child) k) (sym w.1) (front_at_most (t.key way.child) w.0) in
-                at_most_trans (t.key first) (t.key way.child) (t.key x) (tree.first_least d way.child way.some way.within way.under).1 most
-            | inr split ↦
-                let h = tree.hangs first some f.0 in
-                let e : t.key first ≡ t.key d ++ h.0 = h.2 ∙ ap (λ (i : ℕ). t.key i ++ h.0) f.1 in
-                let low : Below (t.key d ++ h.0) (t.key x ++ []) = splits_below (t.key d) (t.key x) h.0 [] split in
-                let low2 : Below (t.key d ++ h.0) (t.key x) = subst (λ (k : List ℕ). Below (t.key d ++ h.0) k) (append-nil (t.key x)) low in
-                inr (subst (λ (k : List ℕ). Below k (t.key x)) (sym e) low2)
-          ]
+          | inl part ↦
+              let more : part.0 ≢ [] = λ none. not_below_itself (t.key d) (subst (λ (k : List ℕ). Below (t.key d) k) (part.1 ∙ ap (λ (l : List ℕ). t.key d ++ l) none ∙ append-nil (t.key d)) less) in
+              let way = leads tree (suc x) d x part.0 (omega arith) dl xl folder part.1 more in
+              let w = way_rest d x way in
+              let most : AtMost (t.key way.child) (t.key x) = subst (λ (k : List ℕ). AtMost (t.key way.child) k) (sym w.1) (front_at_most (t.key way.child) w.0) in
+              at_most_trans (t.key first) (t.key way.child) (t.key x) (tree.first_least d way.child way.some way.within way.under).1 most
+          | inr split ↦
+              let h = tree.hangs first some f.0 in
+              let e : t.key first ≡ t.key d ++ h.0 = h.2 ∙ ap (λ (i : ℕ). t.key i ++ h.0) f.1 in
+              let low : Below (t.key d ++ h.0) (t.key x ++ []) = splits_below (t.key d) (t.key x) h.0 [] split in
+              let low2 : Below (t.key d ++ h.0) (t.key x) = subst (λ (k : List ℕ). Below (t.key d ++ h.0) k) (append-nil (t.key x)) low in
+              inr (subst (λ (k : List ℕ). Below k (t.key x)) (sym e) low2)
+        ]
       ]
 
   pub lower : (d : ℕ) → d < count → 0 < t.first d → Below (t.key d) (t.key (t.first d))

@@ -1,8 +1,8 @@
 -- The places of a tree as they are stored, beside the names that are held.
-use Rattle.std.specs.Prelude.{◌≡◌, ◌≢◌, ℕ, ◌+◌, ◌-◌, ◌<◌, ◌≤◌, ◌⊎◌, Bool, true, false, ◌==◌, if◌then◌else◌, List, [], ◌∷◌, ◌++◌, length, get_or, take, slice_set, Option, Some, None}
+use Rattle.std.specs.Prelude.{◌≡◌, ℕ, ◌-◌, ◌<◌, ◌≤◌, true, false, ◌==◌, if◌then◌else◌, List, [], ◌∷◌, ◌++◌, length, get_or, take, slice_set, Option, Some, None}
 use Rattle.std.specs.List.{filter_map}
 use Rattle.cook_bits.specs.Names.{IsRelativeName}
-use Rattle.name_tree.specs.Tree.{Below, AtMost, IsFolderKey, Links, IsTree}
+use Rattle.name_tree.specs.Tree.{IsFolderKey, Links, IsTree}
 use Rattle.name_tree.specs.declared.node.Node.{Node}
 
 -- the root, as it is first stored
@@ -18,11 +18,11 @@ key_at names nodes i = take (node_at nodes i).len (get_or names (node_at nodes i
 
 abbrev pub links_of : List (List ℕ) → List Node → Links
 links_of names nodes = record {
-    parent = λ i. (node_at nodes i).parent;
-    first = λ i. (node_at nodes i).first_child;
-    next = λ i. (node_at nodes i).next_sibling;
-    key = key_at names nodes;
-  }
+  parent = λ i. (node_at nodes i).parent;
+  first = λ i. (node_at nodes i).first_child;
+  next = λ i. (node_at nodes i).next_sibling;
+  key = key_at names nodes;
+}
 
 -- the place behind `before` among the children of the parent: the first where `before` is 0
 abbrev pub after_of : List Node → ℕ → ℕ → ℕ
@@ -68,13 +68,13 @@ pub record AreNodes (names : List (List ℕ)) (nodes : List Node) : Type 0 where
 -- the new place leads to what stood behind `before`
 abbrev pub new_node : List Node → ℕ → ℕ → ℕ → ℕ → Node
 new_node nodes parent before name len = record {
-    parent = parent;
-    first_child = 0;
-    next_sibling = after_of nodes parent before;
-    name = name;
-    len = len;
-    given = false;
-  }
+  parent = parent;
+  first_child = 0;
+  next_sibling = after_of nodes parent before;
+  name = name;
+  len = len;
+  given = false;
+}
 
 -- the parent or the sibling before leads to the place
 abbrev pub linked : List Node → ℕ → ℕ → ℕ → List Node

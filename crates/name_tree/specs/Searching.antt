@@ -1,7 +1,7 @@
 -- What a search in the tree finds.
-use Rattle.std.specs.Prelude.{◌≡◌, ◌≢◌, ℕ, ◌+◌, ◌-◌, ◌<◌, ◌≤◌, ◌⊎◌, List, [], ◌∷◌, ◌++◌, length, take, drop, Option, Some, None}
+use Rattle.std.specs.Prelude.{◌≡◌, ◌≢◌, ℕ, ◌+◌, ◌<◌, ◌≤◌, ◌⊎◌, List, [], ◌∷◌, ◌++◌, length, take, drop, Option, Some, None}
 use Rattle.name_tree.specs.Tree.{Below, AtMost, EndsAtSlash, IsPiece, IsFolderKey}
-use Rattle.name_tree.specs.Nodes.{node_at, key_at, after_of, AreNodes, new_node}
+use Rattle.name_tree.specs.Nodes.{node_at, key_at, after_of, new_node}
 use Rattle.name_tree.specs.declared.node.Node.{Node}
 
 -- 0, or a child of the parent

@@ -1,5 +1,5 @@
 -- Places that are linked as a tree: what holds of the links and of the keys of the places.
-use Rattle.std.specs.Prelude.{◌≡◌, ◌≢◌, ℕ, ◌+◌, ◌<◌, ◌⊎◌, List, [], ◌∷◌, ◌++◌}
+use Rattle.std.specs.Prelude.{◌≡◌, ◌≢◌, ℕ, ◌<◌, ◌⊎◌, List, [], ◌∷◌, ◌++◌}
 
 -- the byte order of lists, without equality
 abbrev pub Below : List ℕ → List ℕ → Type 0

@@ -1,12 +1,12 @@
 -- What a walk over the places has left.
-use Rattle.std.specs.Prelude.{◌≡◌, ℕ, ◌<◌, ◌==◌, if◌then◌else◌, List, [], length, map, get_or}
+use Rattle.std.specs.Prelude.{◌≡◌, ℕ, ◌<◌, ◌==◌, if◌then◌else◌, List, [], length, map}
 use Rattle.std.specs.List.{filter, enumerate_from}
 use Rattle.std.specs.Ordering.{nat_cmp, is_le}
 use Rattle.std.specs.Cmp.Lexicographic.{slice_cmp}
 use Rattle.name_tree.specs.declared.node.Node.{Node}
 use Rattle.name_tree.specs.Tree.{Below, AtMost, IsFolderKey}
-use Rattle.name_tree.specs.Nodes.{node_at, key_at, AreNodes}
-use Rattle.name_tree.specs.Held.{Numbered, in_order}
+use Rattle.name_tree.specs.Nodes.{key_at, AreNodes}
+use Rattle.name_tree.specs.Held.{in_order}
 
 -- the numbers of the names from a key on
 unfoldable pub numbers_from : List (List ℕ) → List ℕ → List ℕ

@@ -39,7 +39,13 @@ fn folder_named(nodes: &[Node], names: &Texts, parent: u32, near: u32, name: &[u
 }
 
 // Behind which child the next folder of the name may be added.
-fn free_for_folder(nodes: &[Node], names: &Texts, spot: Spot, name: &[u8], end: usize) -> Result<u32, NameError>
+fn free_for_folder(
+    nodes: &[Node],
+    names: &Texts,
+    spot: Spot,
+    name: &[u8],
+    end: usize,
+) -> Result<u32, NameError>
     requires nodes { AreNodes names.now nodes.now }
     requires relative { is_relative_name name.now ≡ true }
     requires way { IsOnWay names.now nodes.now name.now spot.parent }
@@ -83,7 +89,12 @@ fn free_for_file(nodes: &[Node], names: &Texts, spot: Spot, name: &[u8]) -> Resu
 }
 
 /// Behind which child of the deepest folder the name may be added, or why it is refused.
-pub(crate) fn free_place(nodes: &[Node], names: &Texts, spot: Spot, name: &[u8]) -> Result<u32, NameError>
+pub(crate) fn free_place(
+    nodes: &[Node],
+    names: &Texts,
+    spot: Spot,
+    name: &[u8],
+) -> Result<u32, NameError>
     requires nodes { AreNodes names.now nodes.now }
     requires relative { is_relative_name name.now ≡ true }
     requires short { length name.now ≤ 1024 }
@@ -161,7 +172,12 @@ fn rooted(nodes: &mut Vec<Node>) -> Result<(), NameError>
 }
 
 /// Adds the relative name, and tells the place of its file. After a refusal the names are as before.
-pub(crate) fn insert(nodes: &mut Vec<Node>, names: &mut Texts, last: u32, name: &[u8]) -> Result<u32, NameError>
+pub(crate) fn insert(
+    nodes: &mut Vec<Node>,
+    names: &mut Texts,
+    last: u32,
+    name: &[u8],
+) -> Result<u32, NameError>
     requires tree { IsNameTree names.old nodes.old.items last }
     requires relative { is_relative_name name.now ≡ true }
     requires short { length name.now ≤ 1024 }

@@ -93,7 +93,13 @@ fn matching(nodes: &[Node], names: &Texts, at: u32, target: &[u8]) -> u32
 }
 
 /// Looks for a key among the children of the parent, from the child `near` on where its key is below, else from the first.
-pub(crate) fn child(nodes: &[Node], names: &Texts, parent: u32, near: u32, target: &[u8]) -> Position
+pub(crate) fn child(
+    nodes: &[Node],
+    names: &Texts,
+    parent: u32,
+    near: u32,
+    target: &[u8],
+) -> Position
     requires tree { IsTree (length nodes.now) (links_of names.now nodes.now) }
     requires keyed { AreKeyed names.now nodes.now }
     requires parent { parent < length nodes.now }

@@ -1,4 +1,4 @@
-use Rattle.std.proofs.Common.{◌≡◌, ◌<◌, ◌∙◌, ap, sym, ℕ, true, arith}
+use Rattle.std.proofs.Common.{◌<◌, ◌∙◌, ap, sym, arith}
 use Rattle.name_tree.specs.declared.node.Node.{Node}
 use Rattle.name_tree.specs.Nodes.{node_at}
 use Rattle.name_tree.proofs.Searches.{stands, way_len, way_on}
@@ -14,7 +14,7 @@ returns-then-not-node-clause-ahead c =
     let found = c.child_named-found.result in
     let some : 0 < found = held_found c.args.names.now c.args.nodes.now c.requires.nodes c.args.name.now c.down.spot.parent c.node_at.result inv.way c.node_at.ensures inv.given c.in-Some.end found c.in-Some.ensures c.requires.held c.child_named-found.ensures.absent in
     is_left c.args.names.now c.args.nodes.now c.requires.nodes c.args.name.now c.down.spot.parent c.node_at.result inv.way c.node_at.ensures inv.given c.in-Some.end found c.in-Some.ensures some (c.child_named-found.ensures.found some)
-        (ap (λ (n : Node). n.given) (sym c.node_at-node.ensures) ∙ not_true c.node_at-node.result.given c.if-not-node.true)
+    (ap (λ (n : Node). n.given) (sym c.node_at-node.ensures) ∙ not_true c.node_at-node.result.given c.if-not-node.true)
 
 pub down-preserved : goal.down-preserved
 down-preserved c =

@@ -1,4 +1,4 @@
-use Rattle.std.proofs.Common.{◌≡◌, ◌<◌, ◌∙◌, ap, sym, subst, List, ℕ, length, arith}
+use Rattle.std.proofs.Common.{◌∙◌, ap, subst, List, length, arith}
 use Rattle.name_tree.specs.declared.node.Node.{Node}
 use Rattle.name_tree.specs.Nodes.{with_given}
 use Rattle.name_tree.specs.Giving.{IsAhead}
@@ -16,11 +16,11 @@ returns-in-Some-clause-nodes c =
     let items = c.args.nodes.now.items in
     let left = ahead_some c.args.names.now items c.args.name.now c.find_ahead-ahead.result.place c.in-Some.field-0 c.find_ahead-ahead.result.len (subst (λ (l : List Node). IsAhead c.args.names.now l c.args.name.now c.find_ahead-ahead.result.place c.find_ahead-ahead.result.len) c.deref.ensures.value c.find_ahead-ahead.ensures.ahead) c.in-Some.is in
     gives_nodes c.args.names.now items _ c.args.name.now c.find_ahead-ahead.result.place c.in-Some.field-0 c.requires.nodes left
-        (written_back items c.mark.new.nodes c.args.nodes.now.len c.find_ahead-ahead.result.place (c.mark.ensures ∙ ap (λ (l : List Node). with_given l c.find_ahead-ahead.result.place) c.deref_mut.ensures.value) (omega arith))
+    (written_back items c.mark.new.nodes c.args.nodes.now.len c.find_ahead-ahead.result.place (c.mark.ensures ∙ ap (λ (l : List Node). with_given l c.find_ahead-ahead.result.place) c.deref_mut.ensures.value) (omega arith))
 
 pub returns-in-Some-clause-given : goal.returns-in-Some-clause-given
 returns-in-Some-clause-given c =
     let items = c.args.nodes.now.items in
     let left = ahead_some c.args.names.now items c.args.name.now c.find_ahead-ahead.result.place c.in-Some.field-0 c.find_ahead-ahead.result.len (subst (λ (l : List Node). IsAhead c.args.names.now l c.args.name.now c.find_ahead-ahead.result.place c.find_ahead-ahead.result.len) c.deref.ensures.value c.find_ahead-ahead.ensures.ahead) c.in-Some.is in
     gives_folder c.args.names.now items _ c.args.name.now c.find_ahead-ahead.result.place c.in-Some.field-0 c.requires.nodes left
-        (written_back items c.mark.new.nodes c.args.nodes.now.len c.find_ahead-ahead.result.place (c.mark.ensures ∙ ap (λ (l : List Node). with_given l c.find_ahead-ahead.result.place) c.deref_mut.ensures.value) (omega arith))
+    (written_back items c.mark.new.nodes c.args.nodes.now.len c.find_ahead-ahead.result.place (c.mark.ensures ∙ ap (λ (l : List Node). with_given l c.find_ahead-ahead.result.place) c.deref_mut.ensures.value) (omega arith))

@@ -1,4 +1,4 @@
-use Rattle.std.proofs.Common.{◌≡◌, ◌+◌, ◌<◌, ◌∙◌, ap, sym, List, ℕ, length, vec_len, arith}
+use Rattle.std.proofs.Common.{◌≡◌, ◌+◌, ◌∙◌, ap, List, length, vec_len, arith}
 use Rattle.name_tree.specs.declared.node.Node.{Node}
 use Rattle.name_tree.specs.Nodes.{node_at}
 use Rattle.name_tree.proofs.Growing.{grows_as, given_as, start_within, some_left, folder_step, file_step, hung_as, hung_given}
@@ -8,7 +8,7 @@ pub loop-end-init : goal.loop-end-init
 loop-end-init c =
     let is = c.node_at-start.ensures ∙ ap (λ (l : List Node). node_at l c.args.parent) c.deref.ensures.value in
     let growing = grows_as c.args.names.now c.push.new.self c.args.nodes.now.items c.reserve.new.self.items c.args.name.now c.requires.nodes c.len-number.result c.args.parent c.args.before c.node_at-start.result
-        c.in_ok-push.ensures.ok c.in_ok-reserve.ensures.items c.len-number.ensures c.requires.way is c.requires.near c.requires.free in
+    c.in_ok-push.ensures.ok c.in_ok-reserve.ensures.items c.len-number.ensures c.requires.way is c.requires.near c.requires.free in
     let within = start_within c.push.new.self c.reserve.new.self.items c.args.name.now c.len-number.result c.args.parent c.args.before c.node_at-start.result.len c.requires.relative growing in
     record {
       names = c.in_ok-push.ensures.ok;
@@ -46,7 +46,7 @@ pub returns-clause-nodes : goal.returns-clause-nodes
 returns-clause-nodes c =
     let inv = c.loop-end.invariant in
     file_step c.args.names.now c.push.new.self c.loop-end.nodes.items c.hang.new.nodes.items c.args.nodes.now.items c.args.name.now c.len-number.result c.loop-end.parent c.loop-end.before c.loop-end.start c.requires.nodes
-        inv.names c.len-number.ensures c.requires.relative inv.growing c.in_default.ensures c.hang.ensures.nodes
+    inv.names c.len-number.ensures c.requires.relative inv.growing c.in_default.ensures c.hang.ensures.nodes
 
 pub returns-clause-within : goal.returns-clause-within
 returns-clause-within c =

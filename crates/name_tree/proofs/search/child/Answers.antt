@@ -1,6 +1,6 @@
-use Rattle.std.proofs.Common.{ap, sym, ◌∙◌, List, ℕ, [], ◌<◌, subst, arith}
+use Rattle.std.proofs.Common.{ap, sym, ◌∙◌, ℕ, ◌<◌, subst}
 use Rattle.name_tree.specs.Nodes.{key_at}
-use Rattle.name_tree.proofs.Searches.{place_finds, after_child}
+use Rattle.name_tree.proofs.Searches.{place_finds}
 use Rattle.name_tree.proofs.search.child.Goals as goal
 
 pub returns-clause-absent : goal.returns-clause-absent

@@ -1,4 +1,4 @@
-use Rattle.std.proofs.Common.{ap, sym, ◌∙◌, List, ℕ, [], ◌++◌, ◌<◌, ◌≡◌, take, arith}
+use Rattle.std.proofs.Common.{ap, sym, ◌∙◌, [], ◌<◌, ◌≡◌, take, arith}
 use Rattle.std.proofs.lemmas.List.{append-nil}
 use Rattle.name_tree.specs.Nodes.{key_at, node_at}
 use Rattle.name_tree.specs.declared.node.Node.{Node}
@@ -32,4 +32,4 @@ pub returns-clause-way : goal.returns-clause-way
 returns-clause-way c =
     let inv = c.loop-near.invariant in
     way_shared c.args.names.now c.args.nodes.now (stands c.requires.nodes) c.loop-near.parent c.args.name.now (key_at c.args.names.now c.args.nodes.now c.args.last) inv.part.0 c.shared-shared.result c.node_at.result inv.within inv.folder inv.part.1
-        (ap (take c.shared-shared.result) (sym c.key.ensures) ∙ c.shared-shared.ensures.same) c.node_at.ensures c.loop-near-test.false
+    (ap (take c.shared-shared.result) (sym c.key.ensures) ∙ c.shared-shared.ensures.same) c.node_at.ensures c.loop-near-test.false

@@ -1,4 +1,4 @@
-use Rattle.std.proofs.Common.{◌∙◌, ap, sym, List, ℕ, refl}
+use Rattle.std.proofs.Common.{◌∙◌, ap, sym, List, ℕ}
 use Rattle.std.specs.Ordering.{nat_cmp, is_lt}
 use Rattle.std.specs.Cmp.Lexicographic.{slice_cmp}
 use Rattle.name_tree.proofs.Searches.{lt_below, not_lt}

@@ -8,7 +8,7 @@ use Rattle.name_tree.proofs.walk.next_file.Goals as goal
 pub returns-then-node-ne0 : goal.returns-then-node-ne0
 returns-then-node-ne0 c = λ names are file.
     next_first names c.args.nodes.now are c.args.at c.up.place c.node_at-node.result.next_sibling c.first_file.result (c.up.invariant.climbing names are file) (omega arith)
-        (ap (λ (n : Node). n.next_sibling) c.node_at-node.ensures) (omega arith) (c.first_file.ensures.first names are) c.first_file.ensures.end
+    (ap (λ (n : Node). n.next_sibling) c.node_at-node.ensures) (omega arith) (c.first_file.ensures.first names are) c.first_file.ensures.end
 
 pub up-preserved : goal.up-preserved
 up-preserved c =

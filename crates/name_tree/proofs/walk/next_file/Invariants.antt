@@ -1,4 +1,4 @@
-use Rattle.std.proofs.Common.{List, ℕ, ◌<◌, ◌-◌, length}
+use Rattle.std.proofs.Common.{List, ℕ, ◌<◌, length}
 use Rattle.name_tree.specs.Tree.{IsFolderKey}
 use Rattle.name_tree.specs.Nodes.{key_at, links_of, AreNodes}
 use Rattle.name_tree.proofs.Walks.{IsClimbing}
