@@ -1,0 +1,13 @@
+pub mod Cells
+pub mod CodedSlice
+pub mod Codings
+pub mod Depths
+pub mod Folding
+pub mod Joining
+pub mod Loading
+pub mod OneSlice
+pub mod OneTile
+pub mod Parting
+pub mod Placing
+pub mod Restoring
+pub mod SlotsOfSlices

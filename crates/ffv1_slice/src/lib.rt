@@ -1,0 +1,15 @@
+//! Slices of FFV1 frames (RFC 9043, sections 4.5 to 4.8): a tile of samples as coded bytes, both ways.
+#![tactic(auto)]
+
+mod around;
+mod colour;
+mod encode;
+mod error;
+mod head;
+pub mod laws;
+mod lines;
+mod place;
+mod terms;
+
+pub use error::SliceWhy;
+pub use head::SliceHead;
