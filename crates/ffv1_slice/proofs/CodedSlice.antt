@@ -105,7 +105,7 @@ factor_small a b most some =
 swapped : (a b : ℕ) → a * b ≤ 1024 → b * a ≤ 1024
 swapped a b h = omega arith
 
-written_small : (head : SliceHead) (k d : ℕ) → k < 9 → head.x < 2 ^ 31 → head.y < 2 ^ 31 → head.columns - 1 < 2 ^ 31 → head.rows - 1 < 2 ^ 31 → slice_index head.indices 0 < 2 ^ 31 → slice_index head.indices 1 < 2 ^ 31 → get_or (written_numbers head) k d < 2 ^ 31
+pub written_small : (head : SliceHead) (k d : ℕ) → k < 9 → head.x < 2 ^ 31 → head.y < 2 ^ 31 → head.columns - 1 < 2 ^ 31 → head.rows - 1 < 2 ^ 31 → slice_index head.indices 0 < 2 ^ 31 → slice_index head.indices 1 < 2 ^ 31 → get_or (written_numbers head) k d < 2 ^ 31
 written_small head zero d b x y c r i j = x
 written_small head (suc zero) d b x y c r i j = y
 written_small head (suc (suc zero)) d b x y c r i j = c

@@ -6,4 +6,3 @@ pub record IsBlank (len : ℕ) (lines : Lines) : Type 0 where
   pub above2 : lines.above2.items ≡ replicate len 0
   pub above : lines.above.items ≡ replicate len 0
   pub line : lines.line.items ≡ replicate len 0
-  pub same : lines.len ≡ len

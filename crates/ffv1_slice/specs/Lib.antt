@@ -4,6 +4,8 @@ pub mod Blank
 pub mod Borders
 pub mod Colour
 pub mod Faults
+pub mod Got
+pub mod Headers
 pub mod Laws
 pub mod Loading
 pub mod Plane

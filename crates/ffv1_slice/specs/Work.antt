@@ -11,7 +11,6 @@ use Rattle.ffv1_slice.specs.Plane.{cell, around, prediction, context, difference
 
 -- a line of a plane with its borders
 pub record HoldsLine (width : ℕ) (plane : ℕ → ℕ → ℕ) (line : ℕ) (list : List ℕ) : Type 0 where
-  pub long : width + 3 ≤ length list
   pub each : (place : ℕ) → place < width + 3 → slice_index list place ≡ cell width plane line place
 
 -- the sets of states of all contexts stand among so many

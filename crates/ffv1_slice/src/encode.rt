@@ -5,7 +5,8 @@ ghost use Rattle.range_coder.specs.Interval.{coded};
 ghost use Rattle.range_coder.specs.Table.{AreLive};
 ghost use Rattle.range_coder.specs.Coding.{Puts};
 ghost use Rattle.ffv1_params.specs.Parameters.{AreSound};
-ghost use Rattle.ffv1_slice.specs.Below.{AreBelow, IsHalf};
+ghost use Rattle.ffv1_slice.specs.Below.{IsHalf};
+ghost use Rattle.ffv1_slice.specs.Planes.{AreReady};
 ghost use Rattle.ffv1_slice.specs.Laws.{IsInside};
 ghost use Rattle.ffv1_slice.specs.Slice.{IsTile, slice_decisions};
 ghost use Rattle.ffv1_slice.specs.Work.{AreSlots, choices_of_line};
@@ -30,10 +31,7 @@ pub(crate) fn encode_plane(
     requires half { IsHalf half }
     requires live { AreLive table.now states.old }
     requires slots { AreSlots values.now first (length states.old) }
-    requires len { length symbols.old + 3 ≤ lines.now.len }
-    requires above2 { AreBelow (2 * half) lines.now.above2.items }
-    requires above { AreBelow (2 * half) lines.now.above.items }
-    requires line { AreBelow (2 * half) lines.now.line.items }
+    requires lines { AreReady (length symbols.old) (2 * half) lines.now }
     ensures ok { OnOk result (Puts table.now encoder.old states.old encoder.new states.new (choices_of_line half values.now first lines.now.above2.items lines.now.above.items lines.now.line.items (length symbols.old))) }
     ensures live { AreLive table.now states.new }
 {

@@ -6,9 +6,12 @@ mod colour;
 mod encode;
 mod error;
 mod head;
+mod header;
 pub mod laws;
 mod lines;
+mod load;
 mod place;
+mod row;
 mod terms;
 
 pub use error::SliceWhy;

@@ -1,8 +1,7 @@
 // The lines of a plane of which samples are predicted.
 
-ghost use Rattle.std.specs.Prelude.{◌≡◌, ℕ, ◌+◌, ◌<◌, ◌≤◌, length, replicate, IfOk};
+ghost use Rattle.std.specs.Prelude.{◌≡◌, ◌+◌, ◌<◌, ◌≤◌, length, IfOk};
 ghost use Rattle.ffv1_slice.specs.Borders.{IsBordered};
-
 
 use cook_bits::NoMemory;
 use std::alloc::Global;
@@ -13,10 +12,6 @@ pub(crate) struct Lines {
     pub(crate) above2: Vec<u32>,
     pub(crate) above: Vec<u32>,
     pub(crate) line: Vec<u32>,
-    pub(crate) len: usize,
-    ghost above2_len: { length above2.items ≡ len },
-    ghost above_len: { length above.items ≡ len },
-    ghost line_len: { length line.items ≡ len },
 }
 
 impl Lines {
@@ -33,39 +28,29 @@ impl Lines {
             above2,
             above,
             line,
-            len,
         })
-    }
-
-    /// Goes back above the slice, where all is zero.
-    pub(crate) fn clear(&mut self)
-        ensures { IsBlank self.old.len self.new }
-    {
-        self.above2.as_mut_slice().fill(0);
-        self.above.as_mut_slice().fill(0);
-        self.line.as_mut_slice().fill(0);
-    }
-
-    /// Writes the borders of the last line, whose samples stand in it.
-    pub(crate) fn close(&mut self, width: usize)
-        requires some { 1 ≤ width }
-        requires len { width + 3 ≤ self.old.len }
-        ensures closed { IsBordered width self.old.above.items self.old.line.items self.new.line.items }
-        ensures above2 { self.new.above2.items ≡ self.old.above2.items }
-        ensures above { self.new.above.items ≡ self.old.above.items }
-        ensures len { self.new.len ≡ self.old.len }
-    {
-        close(self.above.as_slice(), self.line.as_mut_slice(), width);
     }
 
     /// Goes down a line: the last line is the one above, and another takes its place.
     pub(crate) fn go_down(&mut self)
         ensures above2 { self.new.above2.items ≡ self.old.above.items }
         ensures above { self.new.above.items ≡ self.old.line.items }
-        ensures len { self.new.len ≡ self.old.len }
+        ensures line { self.new.line.items ≡ self.old.above2.items }
     {
         std::mem::swap(&mut self.above2, &mut self.above);
         std::mem::swap(&mut self.above, &mut self.line);
+    }
+
+    /// Writes the borders of the last line, whose samples stand in it.
+    pub(crate) fn close(&mut self, width: usize)
+        requires some { 1 ≤ width }
+        requires above { width + 3 ≤ length self.old.above.items }
+        requires line { width + 3 ≤ length self.old.line.items }
+        ensures bordered { IsBordered width self.old.above.items self.old.line.items self.new.line.items }
+        ensures above2 { self.new.above2.items ≡ self.old.above2.items }
+        ensures above { self.new.above.items ≡ self.old.above.items }
+    {
+        close(self.above.as_slice(), self.line.as_mut_slice(), width);
     }
 }
 
@@ -93,7 +78,7 @@ impl Planes {
     }
 }
 
-/// Writes the borders of a line whose samples stand in it.
+// Writes the borders around the samples of a line.
 fn close(above: &[u32], line: &mut [u32], width: usize)
     requires some { 1 ≤ width }
     requires above { width + 3 ≤ length above.now }

@@ -1,8 +1,8 @@
 // Lines of pixels, brought into the lines of the planes.
 
-ghost use Rattle.std.specs.Prelude.{◌≡◌, ℕ, ◌+◌, ◌*◌, ◌<◌, ◌≤◌, length};
+ghost use Rattle.std.specs.Prelude.{◌*◌, ◌≤◌, length};
 ghost use Rattle.ffv1_slice.specs.Below.{AreBelow, IsHalf};
-ghost use Rattle.ffv1_slice.specs.Planes.{IsLoaded, AreLow};
+ghost use Rattle.ffv1_slice.specs.Planes.{IsLoaded, AreReady};
 
 use crate::colour::load_row;
 use crate::lines::Planes;
@@ -19,9 +19,9 @@ pub(crate) fn load_planes(
     requires some { 1 ≤ width }
     requires pixels { 3 * width ≤ length pixels.now }
     requires colours { AreBelow half pixels.now }
-    requires luma_len { width + 3 ≤ planes.old.luma.len }
-    requires blue_len { width + 3 ≤ planes.old.blue.len }
-    requires red_len { width + 3 ≤ planes.old.red.len }
+    requires luma { AreReady width (2 * half) planes.old.luma }
+    requires blue { AreReady width (2 * half) planes.old.blue }
+    requires red { AreReady width (2 * half) planes.old.red }
     ensures luma { IsLoaded half green_based pixels.now 0 width planes.old.luma planes.new.luma }
     ensures blue { IsLoaded half green_based pixels.now 1 width planes.old.blue planes.new.blue }
     ensures red { IsLoaded half green_based pixels.now 2 width planes.old.red planes.new.red }
