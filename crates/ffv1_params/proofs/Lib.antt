@@ -1,4 +1,5 @@
 pub mod Expected
+pub mod MostContexts
 pub mod ReadLaws
 pub mod RecordLaws
 pub mod RepeatLaws

@@ -5,5 +5,6 @@ pub mod Parameters
 pub mod QuantTables
 pub mod Reading
 pub mod Record
+pub mod SetFields
 pub mod Track
 pub mod Walk

@@ -1,6 +1,6 @@
 -- Quantization tables (RFC 9043, section 4.1, "Quantization Table Set"): a set has five, and each is given by the
 -- lengths of runs of equal values in its first half.
-use Rattle.std.specs.Prelude.{◌≡◌, ℕ, suc, ◌+◌, ◌-◌, ◌*◌, ◌/◌, ◌≤◌, ◌<◌, ◌==◌, nat_lt, if◌then◌else◌, List, [], ◌∷◌, ◌++◌, length, map, sum, replicate, slice_index, slice_index_or, ℤ, pos, ◌+ℤ◌, neg_ℤ, unsigned_abs}
+use Rattle.std.specs.Prelude.{◌≡◌, ℕ, suc, ◌+◌, ◌-◌, ◌*◌, ◌/◌, ◌≤◌, ◌<◌, ◌==◌, nat_lt, if◌then◌else◌, List, [], ◌∷◌, ◌++◌, length, map, sum, replicate, slice_index, slice_index_or, ℤ, pos, ◌+ℤ◌, neg_ℤ, unsigned_abs, max}
 use Rattle.std.specs.List.{range_with_len}
 
 -- the numbers of the runs in which the places of the first half stand, where the first run has the number `first`
@@ -68,3 +68,12 @@ pub record TellsContexts (set : QuantSet) : Type 0 where
   pub some : 1 ≤ set.contexts
   pub most : set.contexts ≤ 32768
   pub within : (a b c d e : ℕ) → a < 256 → b < 256 → c < 256 → d < 256 → e < 256 → unsigned_abs (quant_at set 0 a +ℤ quant_at set 1 b +ℤ quant_at set 2 c +ℤ quant_at set 3 d +ℤ quant_at set 4 e) < set.contexts
+
+-- the last two tables of a set have no value but 0
+pub record AreFlat (values : List ℤ) : Type 0 where
+  pub zeros : (place : ℕ) → 768 ≤ place → place < 1280 → slice_index_or values place (pos 0) ≡ pos 0
+
+-- the most contexts that one of the sets has
+unfoldable pub most_contexts : List QuantSet → ℕ
+most_contexts [] = 0
+most_contexts (set ∷ more) = max set.contexts (most_contexts more)

@@ -1,7 +1,7 @@
 //! What holds of the definitions of records. Each function does nothing: its contract is the law, which a
 //! proof elsewhere can cite.
 
-ghost use Rattle.ffv1_params.specs.Laws.{WrittenRecordIsRead};
+ghost use Rattle.ffv1_params.specs.Laws.{WrittenRecordIsRead, FilmRows};
 
 use range_coder::{States, Table, laws};
 
@@ -21,3 +21,9 @@ pub fn n4()
     let _table = Table::default_table();
     let _states = States::fresh();
 }
+
+/// The rows of slices that this project writes: at least one and at most 1,024, no more than lines, and none with more
+/// lines than its bytes are counted for.
+pub fn film_rows()
+    ensures { FilmRows }
+{}

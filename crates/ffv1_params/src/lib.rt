@@ -19,5 +19,3 @@ pub use parameters::Params;
 pub use reading::read;
 pub use writing::write;
 
-#[cfg(test)]
-mod tests;

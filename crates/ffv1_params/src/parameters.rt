@@ -1,12 +1,13 @@
-ghost use Rattle.std.specs.Prelude.{◌≡◌, ◌*◌, ◌≤◌, All, ◌<◌, [], ◌∷◌, ◌++◌, length, IfOk, OnOk, IsTrue, pos, unsigned_abs};
+ghost use Rattle.std.specs.Prelude.{◌≡◌, ◌↔◌, ℕ, ◌*◌, ◌≤◌, All, ◌<◌, [], ◌∷◌, ◌++◌, length, IfOk, OnOk, IsTrue, pos, unsigned_abs};
 ghost use Rattle.std.specs.Int.{int_rem_euclid};
 ghost use Rattle.range_coder.specs.DefaultTable.{default_one_states};
+ghost use Rattle.range_coder.specs.Table.{IsLive, IsClosed};
 ghost use Rattle.ffv1_params.specs.Parameters.{AreFilm, AreSound, IsPicture, is_depth, set_at, film_params, film_rows, film_tables};
-ghost use Rattle.ffv1_params.specs.QuantTables.{TellsContexts, quant_at, set_of};
+ghost use Rattle.ffv1_params.specs.QuantTables.{TellsContexts, AreFlat, quant_at, set_of, most_contexts};
 
 use crate::quantization::TableSet;
 use cook_bits::{Bytes, NoMemory};
-use range_coder::Table;
+use range_coder::{Table, laws};
 use std::alloc::Global;
 use std::marker::Model;
 
@@ -125,12 +126,44 @@ impl Params {
         self.ec
     }
 
-    /// How the states of a slice are adapted.
+    /// The most contexts that one of the sets tells apart, 1 to 32,768.
+    pub fn most_contexts(&self) -> u32
+        ensures most { result ≡ most_contexts self.now.sets }
+        ensures each { (set : ℕ) → set < length self.now.sets → (set_at self.now set).contexts ≤ result }
+        ensures some { 1 ≤ result }
+        ensures few { result ≤ 32768 }
+    {
+        most_of(self.sets.as_slice())
+    }
+
+    /// How the states of a slice are adapted: by a table that is closed, and for which 8 to 248 are live.
     pub fn table(&self) -> &Table
         ensures table { result.now ≡ self.now.table }
         ensures sound { AreSound self.now }
+        ensures closed { IsClosed self.now.table }
+        ensures live { (state : ℕ) → 8 ≤ state → state ≤ 248 → IsLive self.now.table state }
     {
+        laws::default_table_is_live();
         &self.table
+    }
+
+    /// The values of a set: those of its five tables, one behind another, for each difference modulo 256.
+    #[inline(always)]
+    pub fn values(&self, set: u32) -> &[i16]
+        requires { set < length self.now.sets }
+        ensures values { result.now ≡ (set_at self.now set).values }
+        ensures tell { TellsContexts (set_at self.now set) }
+    {
+        self.sets[set as usize].values()
+    }
+
+    /// Whether the last two of the five tables of a set have no value but 0, so that they may be left out of sums.
+    #[inline(always)]
+    pub fn is_flat(&self, set: u32) -> bool
+        requires { set < length self.now.sets }
+        ensures { IsTrue result ↔ AreFlat (set_at self.now set).values }
+    {
+        self.sets[set as usize].is_flat()
     }
 
     /// The value of a difference, taken modulo 256, in one of the five tables of a set.
@@ -142,6 +175,23 @@ impl Params {
     {
         self.sets[set as usize].quant(table, difference)
     }
+}
+
+// The most contexts that one of the sets tells apart.
+fn most_of(sets: &[TableSet]) -> u32
+    requires some { 1 ≤ length sets.now }
+    requires tell { All TellsContexts sets.now }
+    ensures most { result ≡ most_contexts sets.now }
+    ensures few { result ≤ 32768 }
+{
+    let mut most = 0;
+    for set in sets {
+        let contexts = set.contexts();
+        if contexts > most {
+            most = contexts;
+        }
+    }
+    most
 }
 
 // The most bytes of a slice that the lines are counted for, and the bytes for a sample.

@@ -1,10 +1,10 @@
 // Quantization tables, filled in from the lengths of their runs.
 
-ghost use Rattle.std.specs.Prelude.{◌≡◌, ℕ, ◌+◌, ◌-◌, ◌*◌, ◌/◌, ◌^◌, ◌<◌, ◌≤◌, ◌++◌, length, replicate, slice_index, IfOk, OnOk, pos, All};
+ghost use Rattle.std.specs.Prelude.{◌≡◌, ◌↔◌, IsTrue, ℕ, ◌+◌, ◌-◌, ◌*◌, ◌/◌, ◌^◌, ◌<◌, ◌≤◌, ◌++◌, length, replicate, slice_index, IfOk, OnOk, pos, All};
 ghost use Rattle.std.specs.Prelude.{map, unsigned_abs};
 ghost use Rattle.std.specs.Int.{int_rem_euclid};
 ghost use Rattle.std.specs.List.{range_with_len};
-ghost use Rattle.ffv1_params.specs.QuantTables.{steps_of, height, entry, table_of, context_count, set_of, quant_at, IsTable, TellsContexts};
+ghost use Rattle.ffv1_params.specs.QuantTables.{steps_of, height, entry, table_of, context_count, set_of, quant_at, IsTable, TellsContexts, AreFlat};
 
 use cook_bits::{Bytes, NoMemory};
 use std::alloc::Global;
@@ -21,16 +21,18 @@ const SET_PLACES: usize = 1280;
 pub(crate) struct TableSet {
     values: [i16; SET_PLACES],
     contexts: u32,
+    flat: bool,
 }
 
 impl Model for TableSet {
-    ghost use Rattle.ffv1_params.specs.QuantTables.{QuantSet, TellsContexts};
+    ghost use Rattle.ffv1_params.specs.QuantTables.{QuantSet};
+    ghost use Rattle.ffv1_params.specs.SetFields.{IsSet};
 
     ghost Value = { QuantSet };
 
     ghost view = { λ s. record { values = s.values; contexts = s.contexts } };
 
-    ghost invariant = { λ s. TellsContexts (record { values = s.values; contexts = s.contexts }) };
+    ghost invariant = { λ s. IsSet s.values s.contexts s.flat };
 }
 
 impl TableSet {
@@ -50,10 +52,27 @@ impl TableSet {
         }
         let mut values = [0; SET_PLACES];
         values.copy_from_slice(filled.as_slice());
+        let flat = are_flat(&values);
         Ok(TableSet {
             values,
             contexts: (scale + 1) / 2,
+            flat,
         })
+    }
+
+    #[inline(always)]
+    pub(crate) fn values(&self) -> &[i16]
+        ensures values { result.now ≡ self.now.values }
+        ensures tell { TellsContexts self.now }
+    {
+        &self.values
+    }
+
+    #[inline(always)]
+    pub(crate) fn is_flat(&self) -> bool
+        ensures { IsTrue result ↔ AreFlat self.now.values }
+    {
+        self.flat
     }
 
     pub(crate) fn contexts(&self) -> u32
@@ -71,6 +90,19 @@ impl TableSet {
         let place = difference.rem_euclid(256) as usize;
         i32::from(self.values[PLACES * table as usize + place])
     }
+}
+
+// Whether the last two tables have no value but 0.
+fn are_flat(values: &[i16]) -> bool
+    requires { length values.now ≡ 1280 }
+    ensures { IsTrue result ↔ AreFlat values.now }
+{
+    for place in 3 * PLACES..SET_PLACES {
+        if values[place] != 0 {
+            return false;
+        }
+    }
+    true
 }
 
 // The number of the run in which each place of the first half stands.

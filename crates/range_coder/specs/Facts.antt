@@ -2,7 +2,8 @@
 use Rattle.std.specs.Prelude.{◌≡◌, ◌≢◌, ℕ, ◌+◌, ◌*◌, ◌^◌, ◌<◌, ◌≤◌, Bool, List, [], ◌∷◌, ◌++◌, length, take, drop, replicate, All, ℤ, unsigned_abs}
 use Rattle.range_coder.specs.declared.symbol.Placed.{Placed}
 use Rattle.range_coder.specs.Interval.{Decision, whole, Reads, ending, coded}
-use Rattle.range_coder.specs.Table.{IsLive, AreLive}
+use Rattle.range_coder.specs.Table.{IsLive, IsClosed, AreLive}
+use Rattle.range_coder.specs.DefaultTable.{default_one_states}
 use Rattle.range_coder.specs.Reading.{Reader, Begins}
 use Rattle.range_coder.specs.Encoding.{Encoding}
 use Rattle.range_coder.specs.Choices.{Choice, decided, moved, UseSlots, Part}
@@ -56,3 +57,8 @@ pub record SetsOfStates : Type 0 where
   pub line : (slots : ℕ) (signed : Bool) (symbols : List Placed) → ArePlaced slots signed symbols → UseSlots slots (placed_symbols signed symbols)
   pub put_on : (table : List ℕ) (before : Encoding) (states : List ℕ) (after : Encoding) (left : List ℕ) (first count : ℕ) (choices : List Choice) → first + count ≤ length states → UseSlots count choices → Puts table before (take count (drop first states)) after left choices → Puts table before states after (take first states ++ (left ++ drop count (drop first states))) (moved first choices)
   pub got_on : (table : List ℕ) (before : Reader) (states : List ℕ) (after : Reader) (left : List ℕ) (first count : ℕ) (choices : List Choice) → first + count ≤ length states → UseSlots count choices → Gets table before (take count (drop first states)) after left choices → Gets table before states after (take first states ++ (left ++ drop count (drop first states))) (moved first choices)
+
+-- the default table
+pub record DefaultTableIsLive : Type 0 where
+  pub closed : IsClosed default_one_states
+  pub live : (state : ℕ) → 8 ≤ state → state ≤ 248 → IsLive default_one_states state

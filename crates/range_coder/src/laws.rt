@@ -1,7 +1,7 @@
 //! What holds of coded bytes and of reading them. Each function does nothing: its contract is the
 //! law, which a proof elsewhere can cite.
 
-ghost use Rattle.range_coder.specs.Facts.{CodeLengths, CodingsAreJoined, PartsStay, SetsOfStates};
+ghost use Rattle.range_coder.specs.Facts.{CodeLengths, CodingsAreJoined, PartsStay, SetsOfStates, DefaultTableIsLive};
 ghost use Rattle.range_coder.specs.Laws.{CodedIsRead, CodedAreBytes, CodedBegins, OneMoreIsRead, FrontIsRead, ReadIsInside, ReadOnIsJoined, NarrowedIsJoined, DecidedIsJoined, StatesAreJoined, ChoicesStayLive, ChoicesAreOnStates, ChoicesKeepCount, PutKeepsCount, GetKeepsCount, MovedIsDecided, MovedLeaves, PartedAreNotBothRead, SymbolsPart, OverlongParts, PlacedNumbersAreOne, SymbolSlots, OverlongSlots};
 
 /// The coded bytes of a list of decisions are read as these, their first byte isn't 255, and bytes
@@ -94,4 +94,9 @@ pub fn parts_stay()
 /// Many sets of states one behind another: live states, the slots that choices use, and choices on one set of them.
 pub fn sets_of_states()
     ensures { SetsOfStates }
+{}
+
+/// The default table is closed, and 8 to 248 are live for it.
+pub fn default_table_is_live()
+    ensures { DefaultTableIsLive }
 {}

@@ -36,7 +36,10 @@ invariant_of-result c =
     let all = all_so_far c.loop-runs.filled.items c.loop-runs.scale c.args.tables.now c.loop-runs.runs-index (omega arith) c.loop-runs.invariant in
     let tells = set_tells c.args.tables.now c.requires.five (recursion_from_All IsTable c.args.tables.now c.requires.tables) c.requires.few in
     let P : List ℤ → Type 0 = λ values. TellsContexts (record_of values c.loop-runs.scale) in
-    subst P (sym (c.copy_from_slice.ensures.after ∙ c.as_slice.ensures.value)) (subst TellsContexts (sym all) tells)
+    record {
+      tells = subst P (sym (c.copy_from_slice.ensures.after ∙ c.as_slice.ensures.value)) (subst TellsContexts (sym all) tells);
+      shown = c.are_flat-flat.ensures;
+    }
 
 pub returns : goal.returns
 returns c =
