@@ -28,3 +28,22 @@ depth_half bits d = elim (cases_eq bits 8) as (λ _. IsHalf (2 ^ bits)) [
     ]
   ]
 ]
+
+-- what the code has for two to the bits
+pub depth_power : (bits half : ℕ) → IsTrue (is_depth bits) → half ≡ 2 ^ bits → IsHalf half
+depth_power bits half d e = subst IsHalf (sym e) (depth_half bits d)
+
+-- other bits than 8, 10 and 12 are 16
+pub last_depth : (bits : ℕ) → IsTrue (is_depth bits) → (bits ≡ 8 → ⊥) → (bits ≡ 10 → ⊥) → (bits ≡ 12 → ⊥) → bits ≡ 16
+last_depth bits d not8 not10 not12 = elim (cases_eq bits 16) as (λ _. bits ≡ 16) [
+  | inl e ↦ e
+  | inr not16 ↦
+      let no8 : eqb bits 8 ≡ false = ne_eqb bits 8 not8 in
+      let no10 : eqb bits 10 ≡ false = ne_eqb bits 10 not10 in
+      let no12 : eqb bits 12 ≡ false = ne_eqb bits 12 not12 in
+      let no16 : eqb bits 16 ≡ false = ne_eqb bits 16 not16 in
+      let bad : false ≡ true = rw (no8, no10, no12, no16) at d in
+      cc
+]
+
+pub ruleset depths = (depth_power, last_depth)

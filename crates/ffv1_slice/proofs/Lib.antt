@@ -3,6 +3,8 @@ pub mod Cells
 pub mod CodedSlice
 pub mod Codings
 pub mod Depths
+pub mod Encoded
+pub mod Encoding
 pub mod Folding
 pub mod Headers
 pub mod Joining
@@ -13,7 +15,10 @@ pub mod OneTile
 pub mod Parting
 pub mod Pixels
 pub mod Placing
-pub mod Reading
+pub mod SamplesRead
 pub mod Restoring
 pub mod Rows
+pub mod RowsRead
 pub mod SlotsOfSlices
+pub mod Stores
+pub mod Takings

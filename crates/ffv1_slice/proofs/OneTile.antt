@@ -11,19 +11,16 @@ use Rattle.range_coder.specs.Interval.{Reads}
 use Rattle.range_coder.specs.Laws.{SymbolsPart, SymbolSlots, PartedAreNotBothRead}
 use Rattle.range_coder.specs.DefaultTable.{default_one_states}
 use Rattle.range_coder.specs.Table.{IsClosed, IsLive, AreLive}
+use Rattle.ffv1_params.specs.QuantTables.{most_contexts}
 use Rattle.ffv1_params.specs.Parameters.{Parameters, AreSound}
 use Rattle.ffv1_slice.specs.declared.head.SliceHead.{SliceHead}
 use Rattle.ffv1_slice.specs.Colour.{Pixel, pixel_in, plane_sample, samples_of, from_green}
-use Rattle.ffv1_slice.specs.Slice.{header_choices, key_choices, front_choices, slots_of, most_contexts, fresh_slots, slice_states, index_of, IsTile, TellHead, AreRows, Codes}
+use Rattle.ffv1_slice.specs.Storing.{IsPixel}
+use Rattle.ffv1_slice.specs.Slice.{header_choices, key_choices, front_choices, slots_of, fresh_slots, slice_states, index_of, IsTile, TellHead, AreRows, Codes}
 use Rattle.ffv1_slice.proofs.Depths.{depth_half}
 use Rattle.ffv1_slice.proofs.OneSlice.{SameRow, rows_apart, header_apart}
 use Rattle.ffv1_slice.proofs.Parting.{SameOrPart, split_apart, part_before, part_behind}
 use Rattle.ffv1_slice.proofs.SlotsOfSlices.{plane_slots, rows_slots, front_slots}
-
-pub record IsPixel (half : ℕ) (p : Pixel) : Type 0 where
-  pub red : p.red < half
-  pub green : p.green < half
-  pub blue : p.blue < half
 
 -- a pixel by its samples
 same_pixel : (half : ℕ) (green : Bool) (p q : Pixel) → half ≡ 2 * (half / 2) → IsPixel half p → IsPixel half q → ((plane : ℕ) → plane < 3 → plane_sample half green p plane ≡ plane_sample half green q plane) → (p.red ≡ q.red) × (p.green ≡ q.green) × (p.blue ≡ q.blue)
@@ -116,11 +113,11 @@ index_within params ns h (suc plane) t =
 
 pub slice_slots : SymbolSlots → SetsOfStates → (params : Parameters) (head : SliceHead) (first : Bool) (width height : ℕ) (ns : List ℕ) (s : ℕ → ℕ → ℕ → ℕ) (cs : List Choice) → AreSound params → TellHead params ns head → AreRows params head width s height cs → UseSlots (length (slice_states params)) (front_choices first ns ++ cs)
 slice_slots symbols sets params head first width height ns s cs sound tell rows =
-    let slots : ℕ = slots_of (most_contexts params) in
-    let front : UseSlots (slots_of (most_contexts params)) (front_choices first ns) = front_slots sets symbols (slots_of (most_contexts params)) first ns (slots_some (most_contexts params)) in
-    let behind : UseSlots (slots_of (most_contexts params)) cs = rows_slots sets symbols params head width height s cs (slots_of (most_contexts params)) (λ plane. plane_slots params head plane sound (index_within params ns head plane tell)) rows in
-    let both : UseSlots (slots_of (most_contexts params)) (front_choices first ns ++ cs) = sets.both (slots_of (most_contexts params)) (front_choices first ns) cs front behind in
-    subst (λ (n : ℕ). UseSlots n (front_choices first ns ++ cs)) (sym (length_fresh (slots_of (most_contexts params)))) both
+    let slots : ℕ = slots_of (most_contexts params.sets) in
+    let front : UseSlots (slots_of (most_contexts params.sets)) (front_choices first ns) = front_slots sets symbols (slots_of (most_contexts params.sets)) first ns (slots_some (most_contexts params.sets)) in
+    let behind : UseSlots (slots_of (most_contexts params.sets)) cs = rows_slots sets symbols params head width height s cs (slots_of (most_contexts params.sets)) (λ plane. plane_slots params head plane sound (index_within params ns head plane tell)) rows in
+    let both : UseSlots (slots_of (most_contexts params.sets)) (front_choices first ns ++ cs) = sets.both (slots_of (most_contexts params.sets)) (front_choices first ns) cs front behind in
+    subst (λ (n : ℕ). UseSlots n (front_choices first ns ++ cs)) (sym (length_fresh (slots_of (most_contexts params.sets)))) both
 
 -- heads by their numbers
 head_same : (h k : SliceHead) → h.x ≡ k.x → h.y ≡ k.y → h.columns ≡ k.columns → h.rows ≡ k.rows → h.indices ≡ k.indices → h ≡ k
@@ -169,4 +166,4 @@ fresh_closed params table sound is closed = subst IsClosed (is ∙ sym sound.tab
 pub fresh_live : SetsOfStates → (params : Parameters) (table : List ℕ) → AreSound params → table ≡ default_one_states → IsLive table 128 → AreLive params.table (slice_states params)
 unfolding fresh_slots
 fresh_live sets params table sound is live =
-    sets.fresh params.table (slots_of (most_contexts params)) (subst (λ (t : List ℕ). IsLive t 128) (is ∙ sym sound.table) live)
+    sets.fresh params.table (slots_of (most_contexts params.sets)) (subst (λ (t : List ℕ). IsLive t 128) (is ∙ sym sound.table) live)

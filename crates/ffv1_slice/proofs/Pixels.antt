@@ -16,7 +16,7 @@ row_within width height y below =
     let m : width * (y + 1) ≤ width * height = mul-le-mul_left width e in
     omega arith
 
-pixel_same : (p q : Pixel) → p.red ≡ q.red → p.green ≡ q.green → p.blue ≡ q.blue → p ≡ q
+pub pixel_same : (p q : Pixel) → p.red ≡ q.red → p.green ≡ q.green → p.blue ≡ q.blue → p ≡ q
 pixel_same p q r g b =
     let f0 : ℕ → Pixel = λ n. record { red = n; green = p.green; blue = p.blue } in
     let f1 : ℕ → Pixel = λ n. record { red = q.red; green = n; blue = p.blue } in

@@ -39,7 +39,7 @@ cell_last width plane y some =
     let c : min width (width - 1) ≡ min (width - 1) (width - 1) = omega arith in
     rw (a, b, d, c) refl
 
-cell_first : (width : ℕ) (plane : ℕ → ℕ → ℕ) (y : ℕ) → cell width plane (y + 2) 1 ≡ cell width plane (y + 1) 2
+pub cell_first : (width : ℕ) (plane : ℕ → ℕ → ℕ) (y : ℕ) → cell width plane (y + 2) 1 ≡ cell width plane (y + 1) 2
 unfolding cell
 cell_first width plane zero = refl
 cell_first width plane (suc y) =
@@ -48,7 +48,7 @@ cell_first width plane (suc y) =
     let c : min 0 (width - 1) ≡ 0 = omega arith in
     rw (a, b, c) refl
 
-cell_zero : (width : ℕ) (plane : ℕ → ℕ → ℕ) (y : ℕ) → cell width plane (y + 2) 0 ≡ 0
+pub cell_zero : (width : ℕ) (plane : ℕ → ℕ → ℕ) (y : ℕ) → cell width plane (y + 2) 0 ≡ 0
 unfolding cell
 cell_zero width plane y = let a : y + 2 ≡ suc (suc y) = omega arith in rw a refl
 
@@ -81,7 +81,7 @@ row_held params head width s y planes h0 h1 h2 =
     ∙ ap (λ (cs : List Choice). line_choices params head width s y 0 ++ cs ++ choices_of_plane params head 2 planes.red width) e1
     ∙ ap (λ (cs : List Choice). line_choices params head width s y 0 ++ line_choices params head width s y 1 ++ cs) e2
 
-loaded_at : (width : ℕ) (plane : ℕ → ℕ → ℕ) (y : ℕ) (new old : List ℕ) (place : ℕ) → 1 ≤ width → slice_index new 0 ≡ 0 → slice_index new 1 ≡ slice_index old 2 → slice_index new (width + 2) ≡ slice_index new (width + 1) → ((x : ℕ) → x < width → slice_index new (x + 2) ≡ plane y x) → slice_index old 2 ≡ cell width plane (y + 1) 2 → place < width + 3 → slice_index new place ≡ cell width plane (y + 2) place
+pub loaded_at : (width : ℕ) (plane : ℕ → ℕ → ℕ) (y : ℕ) (new old : List ℕ) (place : ℕ) → 1 ≤ width → slice_index new 0 ≡ 0 → slice_index new 1 ≡ slice_index old 2 → slice_index new (width + 2) ≡ slice_index new (width + 1) → ((x : ℕ) → x < width → slice_index new (x + 2) ≡ plane y x) → slice_index old 2 ≡ cell width plane (y + 1) 2 → place < width + 3 → slice_index new place ≡ cell width plane (y + 2) place
 loaded_at width plane y new old zero some l2 l1 r s above within = l2 ∙ sym (cell_zero width plane y)
 loaded_at width plane y new old (suc zero) some l2 l1 r s above within = l1 ∙ above ∙ sym (cell_first width plane y)
 loaded_at width plane y new old (suc (suc x)) some l2 l1 r s above within =

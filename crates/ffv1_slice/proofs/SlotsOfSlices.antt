@@ -7,30 +7,30 @@ use Rattle.range_coder.specs.Choices.{Choice, UseSlots, moved}
 use Rattle.range_coder.specs.Facts.{SetsOfStates}
 use Rattle.range_coder.specs.Laws.{SymbolSlots}
 use Rattle.range_coder.specs.Symbol.{choice, symbol_choices}
-use Rattle.ffv1_params.specs.QuantTables.{QuantSet, TellsContexts}
+use Rattle.ffv1_params.specs.QuantTables.{QuantSet, TellsContexts, most_contexts}
 use Rattle.ffv1_params.specs.Parameters.{Parameters, AreSound, set_at, no_set}
 use Rattle.ffv1_slice.specs.declared.around.Around.{Around}
 use Rattle.ffv1_slice.specs.declared.head.SliceHead.{SliceHead}
 use Rattle.ffv1_slice.specs.Plane.{around_at, context, step, slot_in, IsSample, Split, Joins}
-use Rattle.ffv1_slice.specs.Slice.{most_of, most_contexts, slots_of, number_choices, header_choices, key_choices, front_choices, first_slot, index_of, plane_values, IsLine, IsRow, AreRows}
+use Rattle.ffv1_slice.specs.Slice.{slots_of, number_choices, header_choices, key_choices, front_choices, first_slot, index_of, plane_values, IsLine, IsRow, AreRows}
 use Rattle.ffv1_slice.specs.Work.{AreSlots}
 
 -- no set has more contexts than the most
-most_at : (sets : List QuantSet) (i : ℕ) → i < length sets → (get_or sets i no_set).contexts ≤ most_of sets
-unfolding most_of
+most_at : (sets : List QuantSet) (i : ℕ) → i < length sets → (get_or sets i no_set).contexts ≤ most_contexts sets
+unfolding most_contexts
 most_at [] i within = absurd (omega arith)
-most_at (set ∷ more) zero within = let e : set.contexts ≤ max set.contexts (most_of more) = omega arith in e
+most_at (set ∷ more) zero within = let e : set.contexts ≤ max set.contexts (most_contexts more) = omega arith in e
 most_at (set ∷ more) (suc i) within =
-    let rest : (get_or more i no_set).contexts ≤ most_of more = most_at more i (omega arith) in
+    let rest : (get_or more i no_set).contexts ≤ most_contexts more = most_at more i (omega arith) in
     omega arith
 
-most_within : (sets : List QuantSet) → All TellsContexts sets → most_of sets ≤ 32768
-unfolding most_of
+most_within : (sets : List QuantSet) → All TellsContexts sets → most_contexts sets ≤ 32768
+unfolding most_contexts
 most_within [] all = omega arith
 most_within (set ∷ more) all =
     let here : TellsContexts set = All-head TellsContexts set more all in
     let few : set.contexts ≤ 32768 = here.most in
-    let rest : most_of more ≤ 32768 = most_within more (All-tail TellsContexts set more all) in
+    let rest : most_contexts more ≤ 32768 = most_within more (All-tail TellsContexts set more all) in
     omega arith
 
 step_small : (p q : ℕ) → step p q < 256
@@ -43,17 +43,17 @@ context_small set a tell =
     tell.within (step a.left a.above_left) (step a.above_left a.above) (step a.above a.above_right) (step a.left_left a.left) (step a.above_above a.above)
     (step_small a.left a.above_left) (step_small a.above_left a.above) (step_small a.above a.above_right) (step_small a.left_left a.left) (step_small a.above_above a.above)
 
-slots_within : (params : Parameters) (plane c : ℕ) → c < most_of params.sets → first_slot params plane + 32 * c + 32 ≤ slots_of (most_of params.sets)
+slots_within : (params : Parameters) (plane c : ℕ) → c < most_contexts params.sets → first_slot params plane + 32 * c + 32 ≤ slots_of (most_contexts params.sets)
 slots_within params zero c below = omega arith
 slots_within params (suc plane) c below = omega arith
 
 -- the slots of a plane
-pub plane_slots : (params : Parameters) (head : SliceHead) (plane : ℕ) → AreSound params → index_of head plane < length params.sets → AreSlots (plane_values params head plane) (first_slot params plane) (slots_of (most_contexts params))
+pub plane_slots : (params : Parameters) (head : SliceHead) (plane : ℕ) → AreSound params → index_of head plane < length params.sets → AreSlots (plane_values params head plane) (first_slot params plane) (slots_of (most_contexts params.sets))
 plane_slots params head plane sound within =
     let set : QuantSet = set_at params (index_of head plane) in
     let tell : TellsContexts (set_at params (index_of head plane)) = sound.tell (index_of head plane) no_set within in
-    let most : (set_at params (index_of head plane)).contexts ≤ most_of params.sets = most_at params.sets (index_of head plane) within in
-    let few : most_of params.sets ≤ 32768 = most_within params.sets sound.tell in
+    let most : (set_at params (index_of head plane)).contexts ≤ most_contexts params.sets = most_at params.sets (index_of head plane) within in
+    let few : most_contexts params.sets ≤ 32768 = most_within params.sets sound.tell in
     record {
       long = tell.long;
       within = λ a.

@@ -10,5 +10,8 @@ pub mod Laws
 pub mod Loading
 pub mod Plane
 pub mod Planes
+pub mod Reached
 pub mod Slice
+pub mod Storing
+pub mod Taking
 pub mod Work

@@ -1,24 +1,16 @@
 -- A slice (RFC 9043, sections 4.5 to 4.8) as one list of choices over numbered slots, and what bytes code.
-use Rattle.std.specs.Prelude.{◌≡◌, ℕ, zero, suc, ◌+◌, ◌-◌, ◌*◌, ◌^◌, ◌<◌, ◌≤◌, max, Bool, true, false, if◌then◌else◌, List, [], ◌∷◌, ◌++◌, length, replicate, slice_index, All, ℤ, pos}
+use Rattle.std.specs.Prelude.{◌≡◌, ℕ, zero, suc, ◌+◌, ◌-◌, ◌*◌, ◌^◌, ◌<◌, ◌≤◌, Bool, true, false, if◌then◌else◌, List, [], ◌∷◌, ◌++◌, length, replicate, slice_index, All, ℤ, pos}
 use Rattle.std.specs.List.{flat_map}
 use Rattle.range_coder.specs.Interval.{Decision, Reads}
 use Rattle.range_coder.specs.Choices.{Choice, decided, moved}
 use Rattle.range_coder.specs.Symbol.{choice, symbol_choices}
-use Rattle.ffv1_params.specs.QuantTables.{QuantSet}
+use Rattle.ffv1_params.specs.QuantTables.{most_contexts}
 use Rattle.ffv1_params.specs.Parameters.{Parameters, set_at}
 use Rattle.ffv1_slice.specs.declared.head.SliceHead.{SliceHead}
 use Rattle.ffv1_slice.specs.Plane.{around_at, sample_choices, IsSample, joined, Joins}
 use Rattle.ffv1_slice.specs.Colour.{samples_of, AreColours}
 
 -- ---- the states: the keyframe bit's, the 32 of the header, those of luma and those of the differences
-
-unfoldable pub most_of : List QuantSet → ℕ
-most_of [] = 0
-most_of (set ∷ more) = max set.contexts (most_of more)
-
--- the most contexts of a set
-abbrev pub most_contexts : Parameters → ℕ
-most_contexts params = most_of params.sets
 
 abbrev pub slots_of : ℕ → ℕ
 slots_of contexts = 33 + 64 * contexts
@@ -28,12 +20,12 @@ unfoldable pub fresh_slots : ℕ → List ℕ
 fresh_slots slots = replicate slots 128
 
 abbrev pub slice_states : Parameters → List ℕ
-slice_states params = fresh_slots (slots_of (most_contexts params))
+slice_states params = fresh_slots (slots_of (most_contexts params.sets))
 
 -- luma has states of its own, and both differences share others
 abbrev pub first_slot : Parameters → ℕ → ℕ
 first_slot params zero = 33
-first_slot params (suc plane) = 33 + 32 * most_contexts params
+first_slot params (suc plane) = 33 + 32 * most_contexts params.sets
 
 abbrev pub index_of : SliceHead → ℕ → ℕ
 index_of head zero = slice_index head.indices 0

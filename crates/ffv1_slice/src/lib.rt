@@ -3,7 +3,7 @@
 
 mod around;
 mod colour;
-mod encode;
+mod depth;
 mod error;
 mod head;
 mod header;
@@ -13,6 +13,8 @@ mod load;
 mod place;
 mod row;
 mod terms;
+mod writing;
 
 pub use error::SliceWhy;
 pub use head::SliceHead;
+pub use writing::encode;

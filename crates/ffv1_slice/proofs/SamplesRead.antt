@@ -83,6 +83,8 @@ sample_fails table before states between held after left half values first above
       x = x;
       choices = h.choices;
       within = within;
+      left_left = h.left_left;
+      left_border = h.left_border;
       read = h.read;
       gets = gets_more table before states between held after left h.choices (moved (slot_in first (context values (around_lines above2 above line x))) overlong_choices) h.gets g';
     }
