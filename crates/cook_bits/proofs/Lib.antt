@@ -11,3 +11,4 @@ pub mod Parity
 pub mod Plain
 pub mod Registers
 pub mod Tables
+pub mod UnaryLaws

@@ -3,3 +3,4 @@ pub mod Crc
 pub mod Laws
 pub mod Names
 pub mod Segments
+pub mod Unary

@@ -3,6 +3,9 @@ ghost use Rattle.cook_bits.specs.Bits.{low_bits, bits_of, number_taken, bits_lef
 
 use std::marker::Model;
 
+mod unary;
+mod whole_bytes;
+
 /// A reader of fields of bits, the highest bit of each byte first. Contracts see the bits that are left.
 #[derive(Drop)]
 pub struct BitReader<'a> {
@@ -103,46 +106,5 @@ impl BitReader<'_> {
     {
         let rest = self.rest.len() as u64;
         rest.saturating_mul(8).saturating_add(u64::from(self.held))
-    }
-}
-
-#[cfg(test)]
-mod tests {
-    use super::*;
-
-    #[test]
-    fn fields_are_read_highest_bit_first(rt: HostRuntime) {
-        // 1010 0101 1100 0011 0000 1111 0001 1000 1111 1111
-        let mut reader = BitReader::new(&[0xA5, 0xC3, 0x0F, 0x18, 0xFF]);
-        assert_eq!(rt; reader.left(), 40);
-        let table = [
-            (3, Some(0b101), 37),
-            (0, Some(0), 37),
-            (1, Some(0), 36),
-            (9, Some(0b0_1011_1000), 27),
-            (32, None, 27),
-            (24, Some(0b0110_0001_1110_0011_0001_1111), 3),
-            (4, None, 3),
-            (3, Some(0b111), 0),
-            (1, None, 0),
-            (0, Some(0), 0),
-        ];
-        for (count, value, left) in table {
-            assert!(rt; count <= 32);
-            assert_eq!(rt; reader.take(count), value, "{count} bits");
-            assert_eq!(rt; reader.left(), left, "behind {count} bits");
-        }
-    }
-
-    #[test]
-    fn whole_words_are_read(rt: HostRuntime) {
-        let bytes = [0x12, 0x34, 0x56, 0x78, 0x9A, 0xBC, 0xDE, 0xF0, 0x0F];
-        let mut reader = BitReader::new(&bytes);
-        assert_eq!(rt; reader.take(4), Some(0x1));
-        assert_eq!(rt; reader.take(32), Some(0x2345_6789));
-        assert_eq!(rt; reader.take(32), Some(0xABCD_EF00));
-        assert_eq!(rt; reader.take(5), None);
-        assert_eq!(rt; reader.take(4), Some(0xF));
-        assert_eq!(rt; reader.left(), 0);
     }
 }

@@ -84,30 +84,3 @@ impl Bytes {
         bytes
     }
 }
-
-#[cfg(test)]
-mod tests {
-    use super::*;
-    use std::test::Fail;
-
-    #[test]
-    fn bytes_grow_and_shrink(rt: HostRuntime) -> Result<(), Fail> {
-        let mut bytes = Bytes::new(rt.alloc());
-        bytes.append(b"reel ")?;
-        bytes.append(b"one")?;
-        bytes.put_at(5, b"two");
-        assert_eq!(rt; bytes.as_slice(), b"reel two".as_slice());
-        bytes.truncate(4);
-        assert_eq!(rt; bytes.as_slice(), b"reel".as_slice());
-        Ok(())
-    }
-
-    #[test]
-    fn bytes_are_held_and_given_back(rt: HostRuntime) -> Result<(), Fail> {
-        let held = Bytes::from_vec(Vec::from_slice(rt.alloc(), b"sound")?);
-        let copied = Bytes::copy(rt.alloc(), held.as_slice())?;
-        assert_eq!(rt; held.into_vec().as_slice(), b"sound".as_slice());
-        assert_eq!(rt; copied.into_vec().as_slice(), b"sound".as_slice());
-        Ok(())
-    }
-}

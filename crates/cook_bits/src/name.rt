@@ -95,28 +95,3 @@ impl Ord for Name {
         self.as_str().cmp(other.as_str())
     }
 }
-
-#[cfg(test)]
-mod tests {
-    use super::*;
-    use std::test::Fail;
-
-    #[test]
-    fn names_are_ordered_byte_by_byte(rt: HostRuntime) -> Result<(), Fail> {
-        let table = [
-            ("a!", "a/b", Ordering::Less),
-            ("a/b", "a0", Ordering::Less),
-            ("a", "a!", Ordering::Less),
-            ("b", "ab", Ordering::Greater),
-            ("z", "\u{e9}", Ordering::Less),
-            ("a/b", "a/b", Ordering::Equal),
-        ];
-        for (left, right, order) in table {
-            let first = Name::copy(rt.alloc(), left)?;
-            let second = Name::from_string(String::from_str(rt.alloc(), right)?);
-            assert_eq!(rt; first.cmp(&second), order, "{left:?} beside {right:?}");
-            assert_eq!(rt; first == second, order == Ordering::Equal);
-        }
-        Ok(())
-    }
-}

@@ -1,5 +1,6 @@
 // The plan of a directory: its entries in byte order of names, each asked for its length and tried by the rules.
 ghost use Rattle.std.specs.Prelude.{◌≡◌, ◌^◌, ◌<◌, ◌≤◌, length, Some, None, IfOk, IfErr, IsTrue, IsUtf8};
+ghost use Rattle.std.specs.List.Sorted.{IsPermutation};
 ghost use Rattle.cook_bits.specs.Names.{full_name};
 ghost use Rattle.shelf_core.specs.Causes.{HasCause};
 ghost use Rattle.shelf_core.specs.Listing.{plain_entries};
@@ -21,9 +22,10 @@ fn is_in_order(entries: &[Entry]) -> bool
     entries.is_sorted_by(|entry, other| entry.name <= other.name)
 }
 
-// Puts entries in byte order of names, unless they stand so.
+// Puts entries in byte order of names, unless they stand so. None is lost, and none comes in.
 fn put_in_order(entries: &mut Vec<Entry>)
     ensures order { AreInOrder entries.new.items }
+    ensures same { IsPermutation entries.old.items entries.new.items }
     ensures kept { AreInOrder entries.old.items → entries.new.items ≡ entries.old.items }
 {
     if !is_in_order(entries.as_slice()) {

@@ -15,6 +15,3 @@ pub use lengths::{image_len, pad_len, pads_in_line, sample_len};
 pub use reading::layout;
 pub use rules::line_len;
 pub use why::DpxWhy;
-
-#[cfg(test)]
-mod tests;

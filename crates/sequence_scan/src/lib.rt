@@ -6,8 +6,6 @@ mod number;
 mod run;
 mod scan;
 mod sharing;
-#[cfg(test)]
-mod tests;
 
 pub use run::{Members, Run};
 pub use scan::runs;

@@ -1,0 +1,24 @@
+//! A caller of this repository's public calls, on cases from outside: each line of the standard input is answered by one line.
+#![tactic(auto)]
+
+mod answer;
+mod bits;
+mod case;
+mod coder;
+mod dpx;
+mod params;
+mod parse;
+mod runs;
+mod slices;
+mod stop;
+
+use std::io::{self, BufRead, BufReader, BufWriter, Write};
+
+fn main(rt: HostRuntime) -> io::Result<()> {
+    let mut out = BufWriter::new(rt.alloc(), io::writer(&rt))?;
+    for line in BufReader::new(rt.alloc(), rt.reader())?.lines(rt.alloc()) {
+        let answer = case::answer_of(rt.alloc(), line?.as_str())?;
+        writeln!(out, "{answer}")?;
+    }
+    out.flush()
+}
