@@ -17,7 +17,7 @@ use Rattle.ffv1_slice.specs.Below.{IsHalf}
 use Rattle.ffv1_slice.specs.Colour.{Pixel, pixel_in, plane_sample, samples_of, from_green}
 use Rattle.ffv1_slice.specs.Laws.{IsInside}
 use Rattle.ffv1_slice.specs.Plane.{cell, around_at, context, prediction, difference, sample_choices, IsSample}
-use Rattle.ffv1_slice.specs.Storing.{IsPixel}
+use Rattle.ffv1_slice.specs.Pixels.{IsPixel}
 use Rattle.ffv1_slice.specs.Slice.{slice_states, slice_choices, slice_decisions, written_numbers, front_choices, first_slot, plane_values, line_choices, row_choices, rows_choices, IsTile, AreCells, AreTaken, TellHead, IsLine, IsRow, AreRows, Codes}
 use Rattle.ffv1_slice.proofs.Depths.{depth_half}
 use Rattle.ffv1_slice.proofs.Joining.{joins_joined}

@@ -15,10 +15,6 @@ pub mod OneTile
 pub mod Parting
 pub mod Pixels
 pub mod Placing
-pub mod SamplesRead
 pub mod Restoring
 pub mod Rows
-pub mod RowsRead
 pub mod SlotsOfSlices
-pub mod Stores
-pub mod Takings

@@ -15,7 +15,7 @@ use Rattle.ffv1_params.specs.QuantTables.{most_contexts}
 use Rattle.ffv1_params.specs.Parameters.{Parameters, AreSound}
 use Rattle.ffv1_slice.specs.declared.head.SliceHead.{SliceHead}
 use Rattle.ffv1_slice.specs.Colour.{Pixel, pixel_in, plane_sample, samples_of, from_green}
-use Rattle.ffv1_slice.specs.Storing.{IsPixel}
+use Rattle.ffv1_slice.specs.Pixels.{IsPixel}
 use Rattle.ffv1_slice.specs.Slice.{header_choices, key_choices, front_choices, slots_of, fresh_slots, slice_states, index_of, IsTile, TellHead, AreRows, Codes}
 use Rattle.ffv1_slice.proofs.Depths.{depth_half}
 use Rattle.ffv1_slice.proofs.OneSlice.{SameRow, rows_apart, header_apart}

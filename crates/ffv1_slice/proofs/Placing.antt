@@ -54,11 +54,11 @@ difference_small half false p s h = folded_small half (s + 2 * half - p) h
 pub line_placed : (half : ℕ) (values : List ℤ) (first slots : ℕ) (above2 above line : List ℕ) (symbols : List Placed) (count : ℕ) → IsHalf half → AreSlots values first slots → ArePlacedSamples half values first above2 above line symbols count → length symbols ≡ count → ArePlaced slots true symbols
 line_placed half values first slots above2 above line symbols count h slots_are are len = record {
   each = λ k d below.
-    let a : Around = around_lines above2 above line k in
-    let e : slice_index_or symbols k d ≡ placed_sample half values first (around_lines above2 above line k) (slice_index line (k + 2)) = are.each k d (omega arith) in
-    let small : unsigned_abs (difference half (is_negative (context values a)) (prediction a) (slice_index line (k + 2))) ≤ 65536 = difference_small half (is_negative (context values a)) (prediction a) (slice_index line (k + 2)) h in
-    let p : IsPlaced slots true (placed_sample half values first a (slice_index line (k + 2))) = record { within = slots_are.within a; codable = omega arith } in
-    rw e p;
+      let a : Around = around_lines above2 above line k in
+      let e : slice_index_or symbols k d ≡ placed_sample half values first (around_lines above2 above line k) (slice_index line (k + 2)) = are.each k d (omega arith) in
+      let small : unsigned_abs (difference half (is_negative (context values a)) (prediction a) (slice_index line (k + 2))) ≤ 65536 = difference_small half (is_negative (context values a)) (prediction a) (slice_index line (k + 2)) h in
+      let p : IsPlaced slots true (placed_sample half values first a (slice_index line (k + 2))) = record { within = slots_are.within a; codable = omega arith } in
+      rw e p;
 }
 
 pub ruleset placing = (placed_line, line_placed)

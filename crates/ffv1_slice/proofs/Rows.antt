@@ -101,7 +101,7 @@ loaded_at width plane y new old (suc (suc x)) some l2 l1 r s above within =
 line_loaded : (half : ℕ) (green : Bool) (pixels : List ℕ) (p width : ℕ) (plane : ℕ → ℕ → ℕ) (y : ℕ) (old new : Lines) → 1 ≤ width → IsLoaded half green pixels p width old new → ((x : ℕ) → x < width → plane y x ≡ plane_sample half green (pixel_in pixels x) p) → HoldsLine width plane (y + 1) old.line.items → HoldsLine width plane (y + 2) new.line.items
 line_loaded half green pixels p width plane y old new some l same h = record {
   each = λ place within.
-    loaded_at width plane y new.line.items old.line.items place some (l.left_left) (l.left) (l.right) (λ x b. l.samples x b ∙ sym (same x b)) (h.each 2 (omega arith)) within;
+      loaded_at width plane y new.line.items old.line.items place some (l.left_left) (l.left) (l.right) (λ x b. l.samples x b ∙ sym (same x b)) (h.each 2 (omega arith)) within;
 }
 
 -- the lines hold what they should, as the line is coded

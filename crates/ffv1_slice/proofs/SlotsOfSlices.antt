@@ -57,8 +57,8 @@ plane_slots params head plane sound within =
     record {
       long = tell.long;
       within = λ a.
-        let small : unsigned_abs (context (set_at params (index_of head plane)).values a) < (set_at params (index_of head plane)).contexts = context_small (set_at params (index_of head plane)) a tell in
-        slots_within params plane (unsigned_abs (context (set_at params (index_of head plane)).values a)) (omega arith);
+          let small : unsigned_abs (context (set_at params (index_of head plane)).values a) < (set_at params (index_of head plane)).contexts = context_small (set_at params (index_of head plane)) a tell in
+          slots_within params plane (unsigned_abs (context (set_at params (index_of head plane)).values a)) (omega arith);
       few = omega arith;
     }
 

@@ -8,7 +8,7 @@ use Rattle.ffv1_params.specs.QuantTables.{most_contexts}
 use Rattle.ffv1_params.specs.Parameters.{Parameters, set_at}
 use Rattle.ffv1_slice.specs.declared.head.SliceHead.{SliceHead}
 use Rattle.ffv1_slice.specs.Plane.{around_at, sample_choices, IsSample, joined, Joins}
-use Rattle.ffv1_slice.specs.Colour.{samples_of, AreColours}
+use Rattle.ffv1_slice.specs.Colour.{samples_of}
 
 -- ---- the states: the keyframe bit's, the 32 of the header, those of luma and those of the differences
 
@@ -106,12 +106,6 @@ pub record TellHead (params : Parameters) (numbers : List ℕ) (head : SliceHead
   pub columns : head.columns ≡ slice_index numbers 2 + 1
   pub rows : head.rows ≡ slice_index numbers 3 + 1
   pub indices : head.indices ≡ slice_index numbers 4 ∷ slice_index numbers 5 ∷ []
-
--- bytes begin as a slice with this head
-pub record CodesHead (params : Parameters) (first : Bool) (bytes : List ℕ) (head : SliceHead) : Type 0 where
-  pub numbers : List ℕ
-  pub tell : TellHead params numbers head
-  pub reads : Reads bytes (decided_in params (front_choices first numbers))
 
 abbrev pub IsLine : Parameters → SliceHead → ℕ → (ℕ → ℕ → ℕ → ℕ) → ℕ → ℕ → List Choice → Type 0
 IsLine params head width samples y plane choices =

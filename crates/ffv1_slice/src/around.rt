@@ -1,6 +1,5 @@
 // The samples around a sample, and what they tell of it: a prediction, and the context of its difference.
 
-
 /// The samples around a sample: left, above, above left, above right, two left and two above.
 #[derive(Clone, Copy)]
 pub(crate) struct Around {

@@ -8,7 +8,13 @@ ghost use Rattle.ffv1_slice.specs.Loading.{AreSamples};
 /// Luma and the two differences of a pixel, in the planes' order.
 #[inline(always)]
 #[tactic(auto, unfolding(crate::specs::Colour::plane_sample))]
-pub(crate) fn to_luma(half: u32, green_based: bool, red: u32, green: u32, blue: u32) -> (u32, u32, u32)
+pub(crate) fn to_luma(
+    half: u32,
+    green_based: bool,
+    red: u32,
+    green: u32,
+    blue: u32,
+) -> (u32, u32, u32)
     requires half { IsHalf half }
     requires red { red < half }
     requires green { green < half }
@@ -20,10 +26,18 @@ pub(crate) fn to_luma(half: u32, green_based: bool, red: u32, green: u32, blue: 
     ensures blue_below { result.1 < 2 * half }
     ensures red_below { result.2 < 2 * half }
 {
-    let (base, other) = if green_based { (green, blue) } else { (blue, green) };
+    let (base, other) = if green_based {
+        (green, blue)
+    } else {
+        (blue, green)
+    };
     let blue_difference = other + half - base;
     let red_difference = red + half - base;
-    (base + (blue_difference + red_difference) / 4 - half / 2, blue_difference, red_difference)
+    (
+        base + (blue_difference + red_difference) / 4 - half / 2,
+        blue_difference,
+        red_difference,
+    )
 }
 
 /// The samples of a line of pixels, in the last lines of the three planes.

@@ -1,10 +1,9 @@
-//! Slices of FFV1 frames (RFC 9043, sections 4.5 to 4.8): a tile of samples as coded bytes, both ways.
+//! Slices of FFV1 frames (RFC 9043, sections 4.5 to 4.8): a tile of samples as coded bytes.
 #![tactic(auto)]
 
 mod around;
 mod colour;
 mod depth;
-mod error;
 mod head;
 mod header;
 pub mod laws;
@@ -15,6 +14,5 @@ mod row;
 mod terms;
 mod writing;
 
-pub use error::SliceWhy;
 pub use head::SliceHead;
 pub use writing::encode;

@@ -85,11 +85,38 @@ fn encode_planes(
 {
     let table = params.table();
     let luma = params.values(head.indices[0]);
-    encode_plane(encoder, table, states, half, luma, LUMA_SLOT, &planes.luma, symbols)?;
+    encode_plane(
+        encoder,
+        table,
+        states,
+        half,
+        luma,
+        LUMA_SLOT,
+        &planes.luma,
+        symbols,
+    )?;
     let first = LUMA_SLOT + 32 * params.most_contexts();
     let differences = params.values(head.indices[1]);
-    encode_plane(encoder, table, states, half, differences, first, &planes.blue, symbols)?;
-    encode_plane(encoder, table, states, half, differences, first, &planes.red, symbols)
+    encode_plane(
+        encoder,
+        table,
+        states,
+        half,
+        differences,
+        first,
+        &planes.blue,
+        symbols,
+    )?;
+    encode_plane(
+        encoder,
+        table,
+        states,
+        half,
+        differences,
+        first,
+        &planes.red,
+        symbols,
+    )
 }
 
 /// Codes the rows of a tile, the planes being above its first line.
@@ -157,6 +184,15 @@ pub fn encode(
     encoder.reserve(2 * tile.len())?;
     let set = states.as_mut_slice();
     put_front(&mut encoder, params.table(), set, head, first)?;
-    put_rows(&mut encoder, params, head, set, &mut planes, symbols.as_mut_slice(), tile, height as usize)?;
+    put_rows(
+        &mut encoder,
+        params,
+        head,
+        set,
+        &mut planes,
+        symbols.as_mut_slice(),
+        tile,
+        height as usize,
+    )?;
     encoder.finish()
 }
