@@ -6,6 +6,7 @@ use crate::dpx::DpxCase;
 use crate::names::NamesCase;
 use crate::params::ParamsCase;
 use crate::runs::RunsCase;
+use crate::slices::SliceCase;
 use crate::stop::Stop;
 use std::alloc::{AllocError, Global};
 
@@ -18,6 +19,7 @@ enum Case {
     Dpx(DpxCase),
     Runs(RunsCase),
     Names(NamesCase),
+    Slice(SliceCase),
 }
 
 // The case that the words say.
@@ -40,6 +42,9 @@ fn read(alloc: Global, words: &[&str]) -> Result<Case, Stop> {
     if let Some(case) = NamesCase::read(alloc, words)? {
         return Ok(Case::Names(case));
     }
+    if let Some(case) = SliceCase::read(alloc, words)? {
+        return Ok(Case::Slice(case));
+    }
     Err(Stop::Unreadable)
 }
 
@@ -52,6 +57,7 @@ fn answer(alloc: Global, line: &str) -> Result<String, Stop> {
         Case::Dpx(case) => case.answer(alloc),
         Case::Runs(case) => case.answer(alloc),
         Case::Names(case) => case.answer(alloc),
+        Case::Slice(case) => case.answer(alloc),
     }
 }
 

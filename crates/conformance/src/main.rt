@@ -10,6 +10,7 @@ mod names;
 mod params;
 mod parse;
 mod runs;
+mod slices;
 mod stop;
 
 use std::io::{self, BufRead, BufReader, BufWriter, Write};
