@@ -1,0 +1,12 @@
+pub mod BankLaws
+pub mod Bounds
+pub mod ChoiceCode
+pub mod ChoiceLaws
+pub mod FixedLaws
+pub mod LeastLaws
+pub mod LinearCode
+pub mod LinearLaws
+pub mod RestoreLaws
+pub mod RiceLaws
+pub mod SmallLaws
+pub mod StepLaws

@@ -1,0 +1,7 @@
+use Rattle.std.proofs.Common.{arith}
+use Rattle.std.proofs.lemmas.Int.{ints}
+use Rattle.flac_predict.proofs.StepLaws.{next_of_none}
+use Rattle.flac_predict.proofs.sums.NoSumSums.next.Goals as goal
+
+pub returns-clause-following : goal.returns-clause-following
+returns-clause-following c = λ more. next_of_none _ _ more (omega (arith, ints))

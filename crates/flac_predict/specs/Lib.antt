@@ -1,0 +1,9 @@
+pub mod Bank
+pub mod Choice
+pub mod Fixed
+pub mod Laws
+pub mod Least
+pub mod Linear
+pub mod Rice
+pub mod Samples
+pub mod Weighing

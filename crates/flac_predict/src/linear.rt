@@ -1,0 +1,93 @@
+// Linear prediction (RFC 9639, section 9.2.6).
+
+ghost use Rattle.std.specs.Prelude.{◌≡◌, ◌+◌, ◌≤◌, ◌<◌, ◌+ℤ◌, ◌-ℤ◌, ◌*ℤ◌, IsTrue, length, take, drop};
+ghost use Rattle.flac_predict.specs.Samples.{all_inside, AreInside, IsInside};
+ghost use Rattle.flac_predict.specs.Linear.{IsLinearSet, weighted, predicted, linear_residuals, linear_restored};
+ghost use Rattle.flac_predict.specs.Bank.{IsOfBank};
+
+use crate::LinearSet;
+use crate::inside::is_inside;
+
+/// Writes the residuals of samples from -2^24 to 2^24 - 1 under a set of the bank: one for each sample behind the first
+/// `set.order`, the warm-up. It takes no memory.
+pub fn residual_linear(set: &LinearSet, samples: &[i32], out: &mut [i32])
+    requires set { IsOfBank set.now }
+    requires samples { AreInside 25 samples.now }
+    requires room { length out.old + set.now.order ≡ length samples.now }
+    ensures residuals { out.new ≡ linear_residuals set.now samples.now }
+    ensures inside { AreInside 29 out.new }
+{
+    let order = set.order as usize;
+    for place in 0..out.len() {
+        let prediction = prediction(set, samples, order + place);
+        out[place] = difference_of(samples[order + place], prediction);
+    }
+}
+
+/// Restores the samples of a linear predictor, in place. `samples` holds the warm-up, which is inside `bits`, and then
+/// the residuals; `bits` is 1 to 25. False exactly where a restored sample leaves its bits, and then `samples` is free.
+/// It takes no memory.
+pub fn restore_linear(set: &LinearSet, samples: &mut [i32], bits: u32) -> bool
+    requires set { IsLinearSet set.now }
+    requires low { 1 ≤ bits }
+    requires high { bits ≤ 25 }
+    requires enough { set.now.order ≤ length samples.old }
+    requires warm_up { AreInside bits (take set.now.order samples.old) }
+    ensures inside { result ≡ all_inside bits (linear_restored set.now (take set.now.order samples.old) (drop set.now.order samples.old)) }
+    ensures restored { IsTrue result → samples.new ≡ linear_restored set.now (take set.now.order samples.old) (drop set.now.order samples.old) }
+{
+    for place in set.order as usize..samples.len() {
+        let prediction = prediction(set, samples, place);
+        let sample = sum_of(samples[place], prediction);
+        if !is_inside(sample, bits) {
+            return false;
+        }
+        samples[place] = sample as i32;
+    }
+    true
+}
+
+// The prediction of the sample at a place from those before it.
+#[inline(always)]
+fn prediction(set: &LinearSet, samples: &[i32], place: usize) -> i64
+    requires set { IsLinearSet set.now }
+    requires enough { set.now.order ≤ place }
+    requires within { place ≤ length samples.now }
+    requires samples { AreInside 25 (take place samples.now) }
+    ensures prediction { result ≡ predicted set.now samples.now place }
+    ensures inside { IsInside 45 result }
+{
+    let mut sum = 0i64;
+    for count in 0..set.order as usize {
+        sum = with_term(sum, set.coefficients[count], samples[place - 1 - count]);
+    }
+    sum >> set.shift
+}
+
+// A sum with one more product.
+#[inline(always)]
+fn with_term(sum: i64, coefficient: i32, sample: i32) -> i64
+    requires { IsInside 60 sum }
+    ensures { result ≡ sum +ℤ (coefficient *ℤ sample) }
+{
+    sum + coefficient as i64 * sample as i64
+}
+
+// A sample less its prediction.
+#[inline(always)]
+fn difference_of(sample: i32, prediction: i64) -> i32
+    requires prediction { IsInside 45 prediction }
+    requires small { IsInside 29 (sample -ℤ prediction) }
+    ensures { result ≡ sample -ℤ prediction }
+{
+    (sample as i64 - prediction) as i32
+}
+
+// A residual and its prediction.
+#[inline(always)]
+fn sum_of(residual: i32, prediction: i64) -> i64
+    requires { IsInside 45 prediction }
+    ensures { result ≡ residual +ℤ prediction }
+{
+    residual as i64 + prediction
+}
