@@ -6,10 +6,17 @@ mod bits;
 mod case;
 mod coder;
 mod dpx;
+mod ebml;
+mod outline;
+mod pack;
 mod params;
 mod parse;
+mod restore;
 mod runs;
+mod shelf;
+mod side;
 mod stop;
+mod words;
 
 use std::io::{self, BufRead, BufReader, BufWriter, Write};
 
