@@ -4,10 +4,16 @@ use crate::bits::BitsCase;
 use crate::coder::CoderCase;
 use crate::dpx::DpxCase;
 use crate::names::NamesCase;
+use crate::ebml::EbmlCase;
+use crate::outline::OutlineCase;
+use crate::pack::PackCase;
 use crate::params::ParamsCase;
+use crate::restore::RestoreCase;
 use crate::runs::RunsCase;
 use crate::slices::SliceCase;
+use crate::side::SideCase;
 use crate::stop::Stop;
+use crate::words::WordsCase;
 use std::alloc::{AllocError, Global};
 
 /// A call, and what it is made on.
@@ -20,6 +26,12 @@ enum Case {
     Runs(RunsCase),
     Names(NamesCase),
     Slice(SliceCase),
+    Ebml(EbmlCase),
+    Side(SideCase),
+    Outline(OutlineCase),
+    Pack(PackCase),
+    Restore(RestoreCase),
+    Words(WordsCase),
 }
 
 // The case that the words say.
@@ -45,6 +57,24 @@ fn read(alloc: Global, words: &[&str]) -> Result<Case, Stop> {
     if let Some(case) = SliceCase::read(alloc, words)? {
         return Ok(Case::Slice(case));
     }
+    if let Some(case) = EbmlCase::read(alloc, words)? {
+        return Ok(Case::Ebml(case));
+    }
+    if let Some(case) = SideCase::read(alloc, words)? {
+        return Ok(Case::Side(case));
+    }
+    if let Some(case) = OutlineCase::read(alloc, words)? {
+        return Ok(Case::Outline(case));
+    }
+    if let Some(case) = PackCase::read(alloc, words)? {
+        return Ok(Case::Pack(case));
+    }
+    if let Some(case) = RestoreCase::read(alloc, words)? {
+        return Ok(Case::Restore(case));
+    }
+    if let Some(case) = WordsCase::read(alloc, words)? {
+        return Ok(Case::Words(case));
+    }
     Err(Stop::Unreadable)
 }
 
@@ -58,6 +88,12 @@ fn answer(alloc: Global, line: &str) -> Result<String, Stop> {
         Case::Runs(case) => case.answer(alloc),
         Case::Names(case) => case.answer(alloc),
         Case::Slice(case) => case.answer(alloc),
+        Case::Ebml(case) => case.answer(alloc),
+        Case::Side(case) => case.answer(alloc),
+        Case::Outline(case) => case.answer(alloc),
+        Case::Pack(case) => case.answer(alloc),
+        Case::Restore(case) => case.answer(alloc),
+        Case::Words(case) => case.answer(alloc),
     }
 }
 

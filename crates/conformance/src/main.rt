@@ -7,11 +7,18 @@ mod case;
 mod coder;
 mod dpx;
 mod names;
+mod ebml;
+mod outline;
+mod pack;
 mod params;
 mod parse;
+mod restore;
 mod runs;
 mod slices;
+mod shelf;
+mod side;
 mod stop;
+mod words;
 
 use std::io::{self, BufRead, BufReader, BufWriter, Write};
 

@@ -1,4 +1,5 @@
 use cook_bits::NoMemory as Starved;
+use shelf_core::ShelfError;
 use std::alloc::{AllocError, AllocFailed};
 use thiserror::Error;
 
@@ -31,5 +32,15 @@ impl<T: Drop> From<AllocFailed<T>> for Stop {
 impl From<Starved> for Stop {
     fn from(_: Starved) -> Stop {
         Stop::NoMemory
+    }
+}
+
+impl From<ShelfError> for Stop {
+    fn from(error: ShelfError) -> Stop {
+        match error {
+            ShelfError::NoMemory => Stop::NoMemory,
+            // A shelf in memory fails only where it was told to.
+            ShelfError::Failed => Stop::OutOfRange,
+        }
     }
 }

@@ -1,0 +1,2 @@
+-- Laws of shelves in memory.
+mod ShelfLaws
