@@ -12,18 +12,3 @@ pub fn rate_bytes(rate: u32) -> [u8; 8]
     let bits = ((1023 + u64::from(exponent)) << 52) + below_one;
     bits.to_be_bytes()
 }
-
-#[cfg(test)]
-mod tests {
-    use super::*;
-
-    #[test]
-    fn rates_are_doubles(rt: HostRuntime) {
-        assert_eq!(rt; rate_bytes(1), [0x3F, 0xF0, 0, 0, 0, 0, 0, 0]);
-        assert_eq!(rt; rate_bytes(48000), [0x40, 0xE7, 0x70, 0, 0, 0, 0, 0]);
-        assert_eq!(rt;
-            rate_bytes(4294967295),
-            [0x41, 0xEF, 0xFF, 0xFF, 0xFF, 0xE0, 0, 0]
-        );
-    }
-}

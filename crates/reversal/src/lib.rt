@@ -14,5 +14,3 @@ pub use reading::read;
 pub use record::{FileRecord, Kind};
 pub use writing::write;
 
-#[cfg(test)]
-mod tests;
