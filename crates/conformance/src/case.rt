@@ -3,15 +3,15 @@
 use crate::bits::BitsCase;
 use crate::coder::CoderCase;
 use crate::dpx::DpxCase;
-use crate::names::NamesCase;
 use crate::ebml::EbmlCase;
+use crate::names::NamesCase;
 use crate::outline::OutlineCase;
 use crate::pack::PackCase;
 use crate::params::ParamsCase;
 use crate::restore::RestoreCase;
 use crate::runs::RunsCase;
-use crate::slices::SliceCase;
 use crate::side::SideCase;
+use crate::slices::SliceCase;
 use crate::stop::Stop;
 use crate::words::WordsCase;
 use std::alloc::{AllocError, Global};

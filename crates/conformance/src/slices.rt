@@ -44,7 +44,19 @@ impl SliceCase {
             ["slice_of", record, rest @ ..] => (Source::Record(parse::bytes(alloc, record)?), rest),
             _ => return Ok(None),
         };
-        let [first, x, y, columns, rows, luma, difference, width, height, tile] = rest else {
+        let [
+            first,
+            x,
+            y,
+            columns,
+            rows,
+            luma,
+            difference,
+            width,
+            height,
+            tile,
+        ] = rest
+        else {
             return Err(Stop::Unreadable);
         };
         let head = SliceHead {
@@ -73,7 +85,9 @@ impl SliceCase {
         if !small || !is_inside(&params, &self.head) || !is_tile(&params, width, height, tile) {
             return Err(Stop::OutOfRange);
         }
-        let coded = ffv1_slice::encode(alloc, &params, &self.head, width, height, self.first, tile)?;
+        let coded = ffv1_slice::encode(
+            alloc, &params, &self.head, width, height, self.first, tile,
+        )?;
         answer::bytes(alloc, coded.as_slice())
     }
 }
