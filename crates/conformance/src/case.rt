@@ -3,7 +3,6 @@
 use crate::bits::BitsCase;
 use crate::coder::CoderCase;
 use crate::dpx::DpxCase;
-use crate::names::NamesCase;
 use crate::params::ParamsCase;
 use crate::runs::RunsCase;
 use crate::stop::Stop;
@@ -17,7 +16,6 @@ enum Case {
     Params(ParamsCase),
     Dpx(DpxCase),
     Runs(RunsCase),
-    Names(NamesCase),
 }
 
 // The case that the words say.
@@ -37,9 +35,6 @@ fn read(alloc: Global, words: &[&str]) -> Result<Case, Stop> {
     if let Some(case) = RunsCase::read(alloc, words)? {
         return Ok(Case::Runs(case));
     }
-    if let Some(case) = NamesCase::read(alloc, words)? {
-        return Ok(Case::Names(case));
-    }
     Err(Stop::Unreadable)
 }
 
@@ -51,7 +46,6 @@ fn answer(alloc: Global, line: &str) -> Result<String, Stop> {
         Case::Params(case) => case.answer(alloc),
         Case::Dpx(case) => case.answer(alloc),
         Case::Runs(case) => case.answer(alloc),
-        Case::Names(case) => case.answer(alloc),
     }
 }
 

@@ -6,7 +6,6 @@ mod bits;
 mod case;
 mod coder;
 mod dpx;
-mod names;
 mod params;
 mod parse;
 mod runs;
