@@ -81,8 +81,10 @@ impl SliceCase {
         let params = params_of(alloc, &self.source)?;
         let (width, height) = (self.width, self.height);
         let tile = self.tile.as_slice();
-        let small = 1 <= width && width <= 16384 && 1 <= height && height <= 16384;
-        if !small || !is_inside(&params, &self.head) || !is_tile(&params, width, height, tile) {
+        if width < 1 || width > 16384 || height < 1 || height > 16384 {
+            return Err(Stop::OutOfRange);
+        }
+        if !is_inside(&params, &self.head) || !is_tile(&params, width, height, tile) {
             return Err(Stop::OutOfRange);
         }
         let coded = ffv1_slice::encode(
@@ -130,9 +132,10 @@ fn is_inside(params: &Params, head: &SliceHead) -> bool
 fn is_tile(params: &Params, width: u32, height: u32, tile: &[u16]) -> bool
     ensures { IsTrue result → IsTile params.now.bits width height tile.now }
 {
-    let long = 3 * (u64::from(width) * u64::from(height));
+    let pixels = u64::from(width) * u64::from(height);
+    let len = tile.len() as u64;
     let most = colours_of(params);
-    tile.len() as u64 == long && tile.iter().all(|sample| u32::from(*sample) < most)
+    len % 3 == 0 && len / 3 == pixels && tile.iter().all(|sample| u32::from(*sample) < most)
 }
 
 // How many values a colour has.
