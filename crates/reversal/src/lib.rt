@@ -13,4 +13,3 @@ pub use error::SideError;
 pub use reading::read;
 pub use record::{FileRecord, Kind};
 pub use writing::write;
-
