@@ -107,7 +107,7 @@ fn header(alloc: Global, file_len: u64, head: &[u8]) -> Result<String, Stop> {
     }
     match dpx_header::layout(head, file_len) {
         Ok(layout) => layout_told(alloc, &layout),
-        Err(why) => Ok(format!(in alloc; "{why:?}")?),
+        Err(why) => Ok(format!(in alloc; "{why}")?),
     }
 }
 
