@@ -9,11 +9,7 @@ mod matroska_read;
 mod next;
 mod opening;
 mod restorer;
-#[cfg(test)]
-mod samples;
 mod stop;
-#[cfg(test)]
-mod tests;
 
 pub use error::{FileError, FileWhy, PackageWhy, RestoreError};
 pub use matroska_read::{FileAt, Outline, OutlineError, outline};

@@ -8,8 +8,6 @@ mod files;
 mod header;
 mod parts;
 mod segment;
-#[cfg(test)]
-mod tests;
 mod top;
 
 pub use error::{OutlineError, OutlineFault};

@@ -5,8 +5,6 @@ pub mod laws;
 mod report;
 mod restore;
 mod status;
-#[cfg(test)]
-mod tests;
 mod top;
 mod words;
 

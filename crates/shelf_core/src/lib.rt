@@ -12,8 +12,6 @@ mod sharing;
 mod shelf;
 mod sink;
 mod store;
-#[cfg(test)]
-mod tests;
 
 pub use calm_shelf::CalmShelf;
 pub use mem_shelf::MemShelf;

@@ -1,13 +1,14 @@
+// The shelves and the sink in memory by themselves.
 ghost use Rattle.std.specs.Prelude.{OnOk};
 ghost use Rattle.shelf_core.specs.Told.{HasFile};
 
-use crate::{CalmShelf, CreateError, MemShelf, MemSink, Shelf, ShelfError, Sink, SinkFailed};
 use cook_bits::{Bytes, Name};
+use shelf_core::{CalmShelf, CreateError, MemShelf, MemSink, Shelf, ShelfError, Sink, SinkFailed};
 use std::process::Abort;
 use std::test::Fail;
 
 // Makes a file of five bytes in two pieces, and seals it.
-#[tactic(auto, using(crate::proofs::FileLaws::file_laws))]
+#[tactic(auto, using(shelf_core::proofs::FileLaws::file_laws))]
 fn write_five<S: Shelf>(shelf: &mut S, name: &str) -> Result<(), Fail>
     ensures { OnOk result (HasFile (S.files shelf.new) name.now) }
 {
@@ -45,7 +46,7 @@ fn keeps_a_file<S: Shelf>(rt: &impl Abort, shelf: &mut S) -> Result<(), Fail> {
 }
 
 // Makes a file, and answers what the first append to it answers.
-#[tactic(auto, using(crate::proofs::FileLaws::file_laws))]
+#[tactic(auto, using(shelf_core::proofs::FileLaws::file_laws))]
 fn first_append<S: Shelf>(
     shelf: &mut S,
     name: &str,

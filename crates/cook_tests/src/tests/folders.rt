@@ -1,11 +1,7 @@
 ghost use Rattle.std.specs.Prelude.{◌≡◌, ◌≤◌, length};
 ghost use Rattle.shelf_core.specs.Causes.{Rose};
 
-use super::endings::ends;
-use super::packages::Content::Listed;
-use super::packages::{Made, packed, shelf_of};
-use super::restoring::place_in;
-use crate::Status;
+use super::orders::{File, ends, package_of};
 use cook_bits::{Name, NoMemory};
 use shelf_core::{CreateError, Entry, Shelf, ShelfError};
 use std::alloc::Global;
@@ -19,7 +15,7 @@ struct Held {
 }
 
 // A shelf that tells nothing. It makes a file only in a folder that was made, and notes the folders in the order in which
-// they were made. The second reading from the place `fickle` gives another first byte.
+// they were made. The second reading from the place `fickle`, of whatever file, gives another first byte.
 #[derive(Drop)]
 struct Foldered {
     alloc: Global,
@@ -121,6 +117,14 @@ impl Foldered {
         None
     }
 
+    // Whether a file has these bytes.
+    fn has(&self, name: &str, bytes: &[u8]) -> bool {
+        match self.bytes_of(name) {
+            Some(held) => held == bytes,
+            None => false,
+        }
+    }
+
     // Whether a reading from the place gives another byte.
     fn turns(&mut self, at: u64) -> bool
         ensures faults { self.new.faults ≡ self.old.faults }
@@ -212,8 +216,13 @@ impl Shelf for Foldered {
     }
 }
 
-// A shelf that has a package alone, as `p`.
-fn shelf_with(alloc: Global, package: &[u8], fickle: Option<u64>) -> Result<Foldered, NoMemory> {
+// A shelf that has one file.
+fn shelf_with(
+    alloc: Global,
+    name: &str,
+    bytes: &[u8],
+    fickle: Option<u64>,
+) -> Result<Foldered, NoMemory> {
     let mut shelf = Foldered {
         alloc,
         files: Vec::new(alloc),
@@ -223,29 +232,27 @@ fn shelf_with(alloc: Global, package: &[u8], fickle: Option<u64>) -> Result<Fold
         faults: 0,
         starved: 0,
     };
-    shelf.hold("p", package)?;
+    shelf.hold(name, bytes)?;
     Ok(shelf)
 }
 
-const DEEP: [Made<'static>; 3] = [
-    ("d/a/b/c", Listed(b"first")),
-    ("d/a/b/d", Listed(b"second")),
-    ("d/a/e", Listed(b"third")),
+const DEEP: [File<'static>; 3] = [
+    ("d/a/b/c", b"first"),
+    ("d/a/b/d", b"second"),
+    ("d/a/e", b"third"),
 ];
 
 // Each folder is made once, and those above it before it.
 #[test]
 fn folders_are_made_before_what_stands_in_them(rt: HostRuntime) -> Result<(), Fail> {
-    let mut shelf = shelf_of(rt.alloc(), &DEEP)?;
-    let package = packed(&rt, rt.alloc(), &mut shelf)?;
-    let mut shelf = shelf_with(rt.alloc(), package.as_slice(), None)?;
+    let package = package_of(&rt, rt.alloc(), &DEEP)?;
+    let mut shelf = shelf_with(rt.alloc(), "p", package.as_slice(), None)?;
     let report = "restored 3 files, 16 bytes\n";
-    let status = ends(&rt, rt.alloc(), &mut shelf, "restore p t", 0, report)?;
-    assert!(rt; matches!(status, Status::Done));
+    ends(&rt, rt.alloc(), &mut shelf, "restore p t", 0, report)?;
     assert_eq!(rt; shelf.files.len(), 4);
-    assert_eq!(rt; shelf.bytes_of("t/a/b/c"), Some(b"first".as_slice()));
-    assert_eq!(rt; shelf.bytes_of("t/a/b/d"), Some(b"second".as_slice()));
-    assert_eq!(rt; shelf.bytes_of("t/a/e"), Some(b"third".as_slice()));
+    assert!(rt; shelf.has("t/a/b/c", b"first"));
+    assert!(rt; shelf.has("t/a/b/d", b"second"));
+    assert!(rt; shelf.has("t/a/e", b"third"));
     let wanted = ["t", "t/a", "t/a/b"];
     assert_eq!(rt; shelf.folders.len(), wanted.len());
     for (folder, name) in shelf.folders.as_slice().iter().zip(&wanted) {
@@ -254,17 +261,40 @@ fn folders_are_made_before_what_stands_in_them(rt: HostRuntime) -> Result<(), Fa
     Ok(())
 }
 
+// The place at which a text stands first.
+fn place_in(bytes: &[u8], text: &[u8]) -> Option<usize> {
+    for place in 0..bytes.len() {
+        if bytes[place..].starts_with(text) {
+            return Some(place);
+        }
+    }
+    None
+}
+
 #[test]
 fn another_second_reading_is_a_fault_of_the_file(rt: HostRuntime) -> Result<(), Fail> {
-    let mut shelf = shelf_of(rt.alloc(), &DEEP)?;
-    let package = packed(&rt, rt.alloc(), &mut shelf)?;
+    let package = package_of(&rt, rt.alloc(), &DEEP)?;
     let place = place_in(package.as_slice(), b"second").ok_or("a content")?;
-    let mut shelf = shelf_with(rt.alloc(), package.as_slice(), Some(place as u64))?;
+    let mut shelf = shelf_with(rt.alloc(), "p", package.as_slice(), Some(place as u64))?;
     let line = "cook: package: file a/b/d: Sum\n";
-    let status = ends(&rt, rt.alloc(), &mut shelf, "restore p t", 3, line)?;
-    assert!(rt; matches!(status, Status::PackageRefused { .. }));
+    ends(&rt, rt.alloc(), &mut shelf, "restore p t", 3, line)?;
     assert_eq!(rt; shelf.files.len(), 3);
-    assert_eq!(rt; shelf.bytes_of("t/a/b/c"), Some(b"first".as_slice()));
-    assert_eq!(rt; shelf.bytes_of("t/a/b/d"), Some(b"recond".as_slice()));
+    assert!(rt; shelf.has("t/a/b/c", b"first"));
+    assert!(rt; shelf.has("t/a/b/d", b"recond"));
+    Ok(())
+}
+
+// A content is read once: its sum is of the very bytes that are in the package, which gives the file back.
+#[test]
+fn what_is_packed_is_what_was_summed(rt: HostRuntime) -> Result<(), Fail> {
+    let mut shelf = shelf_with(rt.alloc(), "d/f", b"first", Some(0))?;
+    shelf.note("t")?;
+    let report = "packed 1 files, 0 tracks, 0 blocks, 220 bytes\n";
+    ends(&rt, rt.alloc(), &mut shelf, "pack d t/p", 0, report)?;
+    let package = shelf.bytes_of("t/p").ok_or("a package")?;
+    let mut shelf = shelf_with(rt.alloc(), "p", package, None)?;
+    let report = "restored 1 files, 5 bytes\n";
+    ends(&rt, rt.alloc(), &mut shelf, "restore p t", 0, report)?;
+    assert!(rt; shelf.has("t/f", b"first"));
     Ok(())
 }
