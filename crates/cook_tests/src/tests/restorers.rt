@@ -36,6 +36,7 @@ fn files_are_given_and_without_a_target_they_are_checked_alone(
     let _ = gives_the_file(&rt, alloc, &mut shelf, None)?;
     assert_eq!(rt; shelf.files().len(), 1);
     let restorer = gives_the_file(&rt, alloc, &mut shelf, Some("t"))?;
+    assert_eq!(rt; restorer.entries().len(), 1);
     assert_eq!(rt; restorer.into_name(0).as_str(), "notes.txt");
     assert_eq!(rt; shelf.unsealed().len(), 0);
     let files = shelf.files();
