@@ -1,0 +1,7 @@
+mod CellCover
+pub mod CutLaws
+mod EdgeLaws
+mod FooterLaws
+pub mod HeadLaws
+pub mod Marking
+mod SettleLaws

@@ -1,0 +1,6 @@
+pub mod Footers
+pub mod Grid
+pub mod Heads
+pub mod Laws
+pub mod Marks
+pub mod Parts
