@@ -1,3 +1,4 @@
+mod Beginnings
 pub mod Bringing
 pub mod Cells
 pub mod CodedSlice

@@ -1,10 +1,10 @@
 -- What holds of slices.
-use Rattle.std.specs.Prelude.{◌≡◌, ℕ, ◌+◌, ◌<◌, ◌≤◌, Bool, List, length, slice_index}
+use Rattle.std.specs.Prelude.{◌≡◌, ℕ, ◌+◌, ◌*◌, ◌<◌, ◌≤◌, Bool, List, length, slice_index}
 use Rattle.cook_bits.specs.Bits.{AreBytes}
 use Rattle.range_coder.specs.Interval.{coded}
 use Rattle.ffv1_params.specs.Parameters.{Parameters, AreSound}
 use Rattle.ffv1_slice.specs.declared.head.SliceHead.{SliceHead}
-use Rattle.ffv1_slice.specs.Slice.{slice_decisions, IsTile, Codes}
+use Rattle.ffv1_slice.specs.Slice.{slice_decisions, IsTile, Codes, CodesHead}
 
 -- a head inside the grid of the parameters, with sets that they have
 pub record IsInside (params : Parameters) (head : SliceHead) : Type 0 where
@@ -25,3 +25,22 @@ CodedIsCode =
 abbrev pub CodedIsOne : Type 0
 CodedIsOne =
     (params : Parameters) (first : Bool) (width height : ℕ) (bytes : List ℕ) (head head' : SliceHead) (tile tile' : List ℕ) → AreSound params → AreBytes bytes → 1 ≤ width → Codes params first width height bytes head tile → Codes params first width height bytes head' tile' → (head ≡ head') × (tile ≡ tile')
+
+-- bytes that code a head and a tile begin as a slice with this head
+abbrev pub CodesTellHead : Type 0
+CodesTellHead =
+    (params : Parameters) (first : Bool) (width height : ℕ) (bytes : List ℕ) (head : SliceHead) (tile : List ℕ) → AreSound params → AreBytes bytes → Codes params first width height bytes head tile → CodesHead params first bytes head
+
+-- and so do the coded bytes of a head and a tile
+abbrev pub CodedIsHead : Type 0
+CodedIsHead =
+    (params : Parameters) (head : SliceHead) (width height : ℕ) (first : Bool) (tile : List ℕ) → AreSound params → IsInside params head → 1 ≤ width → IsTile params.bits width height tile → CodesHead params first (coded (slice_decisions params head width height first tile)) head
+
+-- they are at least one, and few where the tile has few samples
+abbrev pub CodedIsSome : Type 0
+CodedIsSome =
+    (params : Parameters) (head : SliceHead) (width height : ℕ) (first : Bool) (tile : List ℕ) → AreSound params → IsInside params head → 1 ≤ width → IsTile params.bits width height tile → 1 ≤ length (coded (slice_decisions params head width height first tile))
+
+abbrev pub CodedIsFew : Type 0
+CodedIsFew =
+    (params : Parameters) (head : SliceHead) (width height : ℕ) (first : Bool) (tile : List ℕ) → AreSound params → IsInside params head → 105 * (width * height) ≤ 16000000 → length (coded (slice_decisions params head width height first tile)) ≤ 16001000

@@ -1,7 +1,7 @@
 //! What holds of the definitions of slices. Each function does nothing: its contract is the law, which a proof
 //! elsewhere can cite.
 
-ghost use Rattle.ffv1_slice.specs.Laws.{CodedIsCode, CodedIsOne};
+ghost use Rattle.ffv1_slice.specs.Laws.{CodedIsCode, CodedIsFew, CodedIsHead, CodedIsOne, CodedIsSome, CodesTellHead};
 
 use range_coder::{States, Table, laws};
 
@@ -17,5 +17,24 @@ pub fn n5()
     laws::symbol_slots();
     laws::sets_of_states();
     laws::choices_stay_live();
+    let _table = Table::default_table();
+}
+
+/// Bytes that code a head and a tile begin as a slice with this head, and so do the coded bytes of a head and a tile; these
+/// are at least one, and at most 16,001,000 for a tile of at most 16,000,000 / 105 pixels.
+pub fn slices_begin()
+    ensures tell { CodesTellHead }
+    ensures head { CodedIsHead }
+    ensures some { CodedIsSome }
+    ensures few { CodedIsFew }
+{
+    laws::n3();
+    laws::coded_are_bytes();
+    laws::front_is_read();
+    laws::lists_are_joined();
+    laws::symbol_slots();
+    laws::sets_of_states();
+    laws::choices_stay_live();
+    laws::code_lengths();
     let _table = Table::default_table();
 }
