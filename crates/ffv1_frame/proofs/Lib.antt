@@ -1,6 +1,7 @@
 mod CellCover
 pub mod CutLaws
 mod EdgeLaws
+mod FilmLaws
 mod FooterLaws
 pub mod HeadLaws
 pub mod Marking

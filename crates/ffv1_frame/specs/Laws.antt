@@ -4,7 +4,10 @@ use Rattle.dpx_packing.specs.declared.tile.Tile.{Tile}
 use Rattle.dpx_packing.specs.Tiles.{CoverOnce}
 use Rattle.ffv1_frame.specs.declared.cells.Grid.{Grid}
 use Rattle.ffv1_frame.specs.Footers.{frame_of_slices, slices_of}
+use Rattle.ffv1_params.specs.Parameters.{Parameters}
 use Rattle.ffv1_frame.specs.Grid.{IsGrid, pixels_of}
+use Rattle.ffv1_frame.specs.Picture.{IsPictureOf}
+use Rattle.ffv1_frame.specs.Written.{film_frame, film_grid, AreFilmOf, IsPictureIn}
 
 -- bytes that can be a slice: some, and few enough for their footer
 pub record IsSlice (slice : List ℕ) : Type 0 where
@@ -22,3 +25,9 @@ abbrev pub CellsCover : Type 0
 CellsCover =
     (grid : Grid) (cells : List Tile) → IsGrid grid → CoverOnce grid.columns grid.rows cells
     → CoverOnce grid.width grid.height (map (pixels_of grid) cells)
+
+-- the frame that is written of a picture means it
+abbrev pub FilmFrameIsPicture : Type 0
+FilmFrameIsPicture =
+    (params : Parameters) (width height : ℕ) (samples : List ℕ) → AreFilmOf params width height → IsPictureIn params.bits width height samples
+    → IsPictureOf params (film_grid params width height) (film_frame params width height samples) samples

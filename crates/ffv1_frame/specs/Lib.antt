@@ -4,3 +4,6 @@ pub mod Heads
 pub mod Laws
 pub mod Marks
 pub mod Parts
+pub mod Picture
+pub mod SliceLaws
+pub mod Written

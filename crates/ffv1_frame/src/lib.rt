@@ -11,6 +11,7 @@ mod fitting;
 mod footer;
 pub mod laws;
 mod part;
+mod picture;
 mod sharing;
 
 pub use assembling::assemble;
@@ -19,3 +20,4 @@ pub use cutting::cut;
 pub use error::FrameWhy;
 pub use fitting::{GridBad, grid};
 pub use part::{Part, Parts};
+pub use picture::PictureWhy;
