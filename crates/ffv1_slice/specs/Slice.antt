@@ -107,6 +107,12 @@ pub record TellHead (params : Parameters) (numbers : List ℕ) (head : SliceHead
   pub rows : head.rows ≡ slice_index numbers 3 + 1
   pub indices : head.indices ≡ slice_index numbers 4 ∷ slice_index numbers 5 ∷ []
 
+-- bytes begin as a slice with this head
+pub record CodesHead (params : Parameters) (first : Bool) (bytes : List ℕ) (head : SliceHead) : Type 0 where
+  pub numbers : List ℕ
+  pub tell : TellHead params numbers head
+  pub reads : Reads bytes (decided_in params (front_choices first numbers))
+
 abbrev pub IsLine : Parameters → SliceHead → ℕ → (ℕ → ℕ → ℕ → ℕ) → ℕ → ℕ → List Choice → Type 0
 IsLine params head width samples y plane choices =
     Joins width (λ x. IsSample (2 ^ params.bits) (plane_values params head plane) (first_slot params plane) (around_at width (samples plane) y x) (samples plane y x)) choices
