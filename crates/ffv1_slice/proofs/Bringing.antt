@@ -1,11 +1,10 @@
 -- A line of samples with its borders.
-use Rattle.std.proofs.Common.{◌≡◌, ℕ, zero, suc, ◌+◌, ◌*◌, ◌<◌, ◌≤◌, List, Bool, length, refl, sym, ap, ◌∙◌, subst, arith, inl, inr}
+use Rattle.std.proofs.Common.{◌≡◌, ℕ, zero, suc, ◌+◌, ◌*◌, ◌<◌, ◌≤◌, List, Bool, length, sym, ap, ◌∙◌, subst, arith, inl, inr}
 use Rattle.std.proofs.lemmas.Bool.{cases_lt}
 use Rattle.std.specs.Prelude.{slice_index}
 use Rattle.ffv1_slice.specs.declared.lines.Lines.{Lines}
 use Rattle.ffv1_slice.specs.Below.{AreBelow}
 use Rattle.ffv1_slice.specs.Borders.{IsBordered}
-use Rattle.ffv1_slice.specs.Colour.{pixel_in, plane_sample}
 use Rattle.ffv1_slice.specs.Loading.{AreSamples}
 use Rattle.ffv1_slice.specs.Planes.{AreReady, IsLoaded}
 

@@ -1,7 +1,6 @@
 -- Lines with their borders, and what the samples around a sample depend on.
-use Rattle.std.proofs.Common.{◌≡◌, ℕ, zero, suc, ◌+◌, ◌-◌, ◌<◌, ◌≤◌, min, refl, sym, ap, ◌∙◌, subst, arith}
+use Rattle.std.proofs.Common.{◌≡◌, ℕ, zero, suc, ◌+◌, ◌-◌, ◌<◌, ◌≤◌, min, refl, sym, subst, arith}
 use Rattle.std.proofs.Math.Nat.{min-le_right, min-le_left}
-use Rattle.ffv1_slice.specs.declared.around.Around.{Around}
 use Rattle.ffv1_slice.specs.Plane.{cell, around_at}
 
 -- two planes are the same in the lines above y

@@ -1,11 +1,11 @@
 -- The coded bytes of a head and a tile code them.
-use Rattle.std.proofs.Common.{◌≡◌, ℕ, zero, suc, ◌+◌, ◌-◌, ◌*◌, ◌/◌, ◌^◌, ◌<◌, ◌≤◌, min, max, List, [], ◌∷◌, ◌++◌, All, Bool, true, false, length, get_or, refl, sym, ap, ◌∙◌, subst, arith, inl, inr}
+use Rattle.std.proofs.Common.{◌≡◌, ℕ, zero, suc, ◌+◌, ◌-◌, ◌*◌, ◌^◌, ◌<◌, ◌≤◌, min, List, [], ◌∷◌, Bool, true, false, length, get_or, refl, arith, inl, inr}
 use Rattle.std.proofs.lemmas.Bool.{cases_lt}
 use Rattle.std.proofs.lemmas.List.{get_or_past, ext_get_or}
 use Rattle.std.proofs.Math.Nat.{mul-le-mul_left}
 use Rattle.std.specs.Prelude.{ℤ, slice_index, unsigned_abs}
 use Rattle.std.specs.Int.{is_negative}
-use Rattle.range_coder.specs.Choices.{Choice, UseSlots}
+use Rattle.range_coder.specs.Choices.{UseSlots}
 use Rattle.range_coder.specs.Facts.{SetsOfStates}
 use Rattle.range_coder.specs.Interval.{coded}
 use Rattle.range_coder.specs.Laws.{SymbolSlots, CodedIsRead, ChoicesAreOnStates}
@@ -18,7 +18,7 @@ use Rattle.ffv1_slice.specs.Colour.{Pixel, pixel_in, plane_sample, samples_of, f
 use Rattle.ffv1_slice.specs.Laws.{IsInside}
 use Rattle.ffv1_slice.specs.Plane.{cell, around_at, context, prediction, difference, sample_choices, IsSample}
 use Rattle.ffv1_slice.specs.Pixels.{IsPixel}
-use Rattle.ffv1_slice.specs.Slice.{slice_states, slice_choices, slice_decisions, written_numbers, front_choices, first_slot, plane_values, line_choices, row_choices, rows_choices, IsTile, AreCells, AreTaken, TellHead, IsLine, IsRow, AreRows, Codes}
+use Rattle.ffv1_slice.specs.Slice.{slice_states, slice_choices, slice_decisions, written_numbers, first_slot, plane_values, line_choices, row_choices, rows_choices, IsTile, TellHead, IsLine, IsRow, AreRows, Codes}
 use Rattle.ffv1_slice.proofs.Depths.{depth_half}
 use Rattle.ffv1_slice.proofs.Joining.{joins_joined}
 use Rattle.ffv1_slice.proofs.OneTile.{slice_slots}

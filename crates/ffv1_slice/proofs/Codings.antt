@@ -1,5 +1,5 @@
 -- Choices put or got one after another.
-use Rattle.std.proofs.Common.{◌≡◌, ℕ, ◌+◌, ◌<◌, ◌≤◌, List, [], ◌∷◌, ◌++◌, length, refl, sym, ap, ◌∙◌, subst, arith, append_assoc, length-append, slice_index}
+use Rattle.std.proofs.Common.{◌≡◌, ℕ, ◌+◌, ◌≤◌, List, [], ◌∷◌, ◌++◌, length, refl, sym, ap, ◌∙◌, subst, arith, length-append, slice_index}
 use Rattle.range_coder.specs.Interval.{Decision, Interval, narrow, narrowed}
 use Rattle.range_coder.specs.Reading.{Reader, ReadsOn}
 use Rattle.range_coder.specs.Encoding.{Encoding}

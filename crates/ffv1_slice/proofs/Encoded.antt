@@ -1,6 +1,6 @@
 -- The bytes of a whole slice.
-use Rattle.std.proofs.Common.{◌≡◌, ℕ, ◌*◌, ◌≤◌, List, ◌+◌, ◌++◌, replicate, Bool, length, refl, sym, ap, ◌∙◌, subst, arith}
-use Rattle.range_coder.specs.Choices.{Choice, decided}
+use Rattle.std.proofs.Common.{◌≡◌, ℕ, ◌*◌, ◌≤◌, List, ◌+◌, replicate, Bool, length, ap, ◌∙◌, subst, arith}
+use Rattle.range_coder.specs.Choices.{decided}
 use Rattle.range_coder.specs.Coding.{Puts}
 use Rattle.range_coder.specs.Encoding.{Encoding}
 use Rattle.range_coder.specs.Facts.{CodingsAreJoined, CodeLengths}

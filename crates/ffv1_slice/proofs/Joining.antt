@@ -1,5 +1,5 @@
 -- Lists of choices, each for a number, one after another.
-use Rattle.std.proofs.Common.{◌≡◌, ℕ, zero, suc, ◌+◌, ◌<◌, ◌≤◌, List, [], ◌∷◌, ◌++◌, length, refl, sym, ap, ◌∙◌, subst, arith}
+use Rattle.std.proofs.Common.{◌≡◌, ℕ, zero, suc, ◌+◌, ◌<◌, List, [], ◌++◌, refl, ap, ◌∙◌, arith}
 use Rattle.range_coder.specs.Choices.{Choice}
 use Rattle.ffv1_slice.specs.Plane.{joined, Split, Joins}
 

@@ -1,10 +1,9 @@
 -- How many bytes a slice has.
-use Rattle.std.proofs.Common.{◌≡◌, ℕ, zero, suc, ◌+◌, ◌-◌, ◌*◌, ◌^◌, ◌<◌, ◌≤◌, List, [], ◌∷◌, ◌++◌, All, Bool, true, false, length, length-append, refl, sym, ap, ◌∙◌, subst, arith}
-use Rattle.std.proofs.Math.Nat.{mul-le-mul_left}
+use Rattle.std.proofs.Common.{◌≡◌, ℕ, zero, suc, ◌+◌, ◌*◌, ◌^◌, ◌<◌, ◌≤◌, List, [], ◌∷◌, ◌++◌, All, Bool, true, false, length, length-append, arith}
 use Rattle.std.proofs.lemmas.List.Elements.{All-head, All-tail}
-use Rattle.std.specs.Prelude.{ℤ, pos, unsigned_abs}
+use Rattle.std.specs.Prelude.{ℤ, pos}
 use Rattle.std.specs.Int.{is_negative}
-use Rattle.range_coder.specs.Choices.{Choice, moved, decided}
+use Rattle.range_coder.specs.Choices.{Choice, decided}
 use Rattle.range_coder.specs.Facts.{CodeLengths}
 use Rattle.range_coder.specs.Interval.{coded}
 use Rattle.range_coder.specs.Symbol.{symbol_choices}

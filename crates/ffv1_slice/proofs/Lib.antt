@@ -7,7 +7,9 @@ pub mod Depths
 pub mod Encoded
 pub mod Encoding
 pub mod Folding
+pub mod Fronts
 pub mod Headers
+pub mod HeadsRead
 pub mod Joining
 pub mod Lengths
 pub mod Loading
@@ -16,6 +18,14 @@ pub mod OneTile
 pub mod Parting
 pub mod Pixels
 pub mod Placing
+pub mod PlanesRead
 pub mod Restoring
+pub mod Rooms
+pub mod RowFaults
 pub mod Rows
+pub mod RowsRead
+pub mod SamplesRead
 pub mod SlotsOfSlices
+pub mod Stores
+pub mod Takings
+pub mod WholeSlice

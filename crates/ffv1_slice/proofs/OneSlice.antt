@@ -1,9 +1,9 @@
 -- Bytes code one head and one tile.
-use Rattle.std.proofs.Common.{◌≡◌, ◌≢◌, ◌⊎◌, ℕ, zero, suc, ◌+◌, ◌-◌, ◌*◌, ◌/◌, ◌%◌, ◌^◌, ◌<◌, ◌≤◌, List, [], ◌∷◌, ◌++◌, All, Bool, true, false, length, refl, sym, ap, ◌∙◌, subst, arith, rules, append_assoc, inl, inr}
+use Rattle.std.proofs.Common.{◌≡◌, ◌⊎◌, ℕ, ◌^◌, ◌<◌, ◌≤◌, List, [], ◌∷◌, ◌++◌, All, Bool, true, false, length, refl, sym, ap, ◌∙◌, subst, arith, rules, inl, inr}
 use Rattle.std.proofs.lemmas.Bool.{cases_eq}
 use Rattle.std.proofs.lemmas.List.{append-nil}
 use Rattle.std.proofs.lemmas.List.Elements.{All-head, All-tail}
-use Rattle.std.specs.Prelude.{ℤ, pos, negsuc, slice_index}
+use Rattle.std.specs.Prelude.{ℤ, pos, negsuc}
 use Rattle.std.specs.Int.{is_negative}
 use Rattle.range_coder.specs.Choices.{Choice, Part, moved}
 use Rattle.range_coder.specs.Laws.{SymbolsPart}
@@ -11,9 +11,9 @@ use Rattle.range_coder.specs.Symbol.{IsCodable, symbol_choices}
 use Rattle.ffv1_params.specs.Parameters.{Parameters}
 use Rattle.ffv1_slice.specs.declared.around.Around.{Around}
 use Rattle.ffv1_slice.specs.declared.head.SliceHead.{SliceHead}
-use Rattle.ffv1_slice.specs.Plane.{around_at, context, prediction, restored, slot_in, IsSample, Joins}
+use Rattle.ffv1_slice.specs.Plane.{around_at, context, prediction, restored, slot_in, IsSample}
 use Rattle.ffv1_slice.specs.Slice.{number_choices, header_choices, first_slot, plane_values, IsLine, IsRow, AreRows}
-use Rattle.ffv1_slice.proofs.Parting.{SameOrPart, split_apart, joins_apart, part_before}
+use Rattle.ffv1_slice.proofs.Parting.{SameOrPart, split_apart, joins_apart}
 use Rattle.ffv1_slice.proofs.Cells.{SameAbove, around_same}
 
 -- two integers are the same or not

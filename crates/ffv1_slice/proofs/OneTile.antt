@@ -1,13 +1,12 @@
 -- Samples determine the tile, and bytes the head and the tile.
-use Rattle.std.proofs.Common.{◌≡◌, ◌≢◌, ◌⊎◌, ℕ, zero, suc, ◌+◌, ◌-◌, ◌*◌, ◌/◌, ◌%◌, ◌^◌, ◌<◌, ◌≤◌, List, [], ◌∷◌, ◌++◌, All, Bool, true, false, length, get_or, refl, sym, ap, ◌∙◌, subst, arith, inl, inr}
+use Rattle.std.proofs.Common.{◌≡◌, ℕ, zero, suc, ◌+◌, ◌-◌, ◌*◌, ◌/◌, ◌%◌, ◌^◌, ◌<◌, ◌≤◌, List, ◌++◌, Bool, true, false, length, get_or, refl, sym, ap, ◌∙◌, subst, arith, inl, inr}
 use Rattle.std.proofs.lemmas.List.{ext_get_or, length-replicate}
 use Rattle.std.proofs.lemmas.Nat.{div_below}
 use Rattle.std.proofs.Math.Nat.{mod-lt}
 use Rattle.std.specs.Prelude.{slice_index}
 use Rattle.cook_bits.specs.Bits.{AreBytes}
-use Rattle.range_coder.specs.Choices.{Choice, Part, UseSlots, decided}
+use Rattle.range_coder.specs.Choices.{Choice, UseSlots}
 use Rattle.range_coder.specs.Facts.{SetsOfStates}
-use Rattle.range_coder.specs.Interval.{Reads}
 use Rattle.range_coder.specs.Laws.{SymbolsPart, SymbolSlots, PartedAreNotBothRead}
 use Rattle.range_coder.specs.DefaultTable.{default_one_states}
 use Rattle.range_coder.specs.Table.{IsClosed, IsLive, AreLive}
@@ -19,7 +18,7 @@ use Rattle.ffv1_slice.specs.Pixels.{IsPixel}
 use Rattle.ffv1_slice.specs.Slice.{header_choices, key_choices, front_choices, slots_of, fresh_slots, slice_states, index_of, IsTile, TellHead, AreRows, Codes}
 use Rattle.ffv1_slice.proofs.Depths.{depth_half}
 use Rattle.ffv1_slice.proofs.OneSlice.{SameRow, rows_apart, header_apart}
-use Rattle.ffv1_slice.proofs.Parting.{SameOrPart, split_apart, part_before, part_behind}
+use Rattle.ffv1_slice.proofs.Parting.{SameOrPart, split_apart, part_behind}
 use Rattle.ffv1_slice.proofs.SlotsOfSlices.{plane_slots, rows_slots, front_slots}
 
 -- a pixel by its samples

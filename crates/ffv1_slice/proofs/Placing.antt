@@ -1,5 +1,5 @@
 -- A line of differences as choices.
-use Rattle.std.proofs.Common.{◌≡◌, ℕ, zero, suc, ◌+◌, ◌-◌, ◌*◌, ◌%◌, ◌<◌, ◌≤◌, List, [], ◌∷◌, ◌++◌, All, Bool, true, false, length, take, get_or, refl, sym, ap, ◌∙◌, subst, arith}
+use Rattle.std.proofs.Common.{◌≡◌, ℕ, zero, suc, ◌+◌, ◌-◌, ◌*◌, ◌%◌, ◌<◌, ◌≤◌, List, [], ◌∷◌, ◌++◌, Bool, true, false, length, take, get_or, refl, sym, ap, ◌∙◌, arith}
 use Rattle.std.specs.Prelude.{ℤ, unsigned_abs, slice_index, slice_index_or}
 use Rattle.std.specs.Int.{is_negative}
 use Rattle.std.specs.List.{flat_map}
@@ -13,7 +13,7 @@ use Rattle.range_coder.specs.Choices.{Choice}
 use Rattle.range_coder.specs.Placing.{placed_symbol, placed_symbols, IsPlaced, ArePlaced}
 use Rattle.ffv1_slice.specs.declared.around.Around.{Around}
 use Rattle.ffv1_slice.specs.Below.{IsHalf}
-use Rattle.ffv1_slice.specs.Plane.{context, prediction, difference, folded, sample_choices, joined}
+use Rattle.ffv1_slice.specs.Plane.{context, prediction, difference, folded, joined}
 use Rattle.ffv1_slice.specs.Work.{AreSlots, around_lines, placed_sample, ArePlacedSamples, choices_of_line}
 
 -- a list, each of whose elements is known, as lists joined

@@ -1,12 +1,9 @@
 -- The lines of the planes, on the way down a slice.
-use Rattle.std.proofs.Common.{◌≡◌, ℕ, zero, suc, ◌+◌, ◌-◌, ◌*◌, ◌^◌, ◌<◌, ◌≤◌, min, List, [], ◌∷◌, ◌++◌, Bool, length, get_or, take, drop, refl, sym, ap, ◌∙◌, subst, arith, inl, inr}
+use Rattle.std.proofs.Common.{◌≡◌, ℕ, zero, suc, ◌+◌, ◌-◌, ◌^◌, ◌<◌, ◌≤◌, min, List, ◌++◌, Bool, length, refl, sym, ap, ◌∙◌, subst, arith, inl, inr}
 use Rattle.std.proofs.lemmas.Bool.{cases_lt}
-use Rattle.std.proofs.lemmas.List.{get_or-take, get_or-drop, get_or-replicate, get_or_past, length-replicate}
-use Rattle.std.specs.Prelude.{ℤ, slice_index, slice_range, replicate}
+use Rattle.std.proofs.lemmas.List.{get_or-replicate, get_or_past, length-replicate}
+use Rattle.std.specs.Prelude.{ℤ, slice_index, replicate}
 use Rattle.range_coder.specs.Choices.{Choice}
-use Rattle.range_coder.specs.Coding.{Puts}
-use Rattle.range_coder.specs.Encoding.{Encoding}
-use Rattle.range_coder.specs.Table.{AreLive}
 use Rattle.ffv1_params.specs.Parameters.{Parameters}
 use Rattle.ffv1_slice.specs.declared.around.Around.{Around}
 use Rattle.ffv1_slice.specs.declared.head.SliceHead.{SliceHead}
@@ -14,12 +11,12 @@ use Rattle.ffv1_slice.specs.declared.lines.Lines.{Lines}
 use Rattle.ffv1_slice.specs.declared.lines.Planes.{Planes}
 use Rattle.ffv1_slice.specs.Below.{AreBelow}
 use Rattle.ffv1_slice.specs.Blank.{IsBlank}
-use Rattle.ffv1_slice.specs.Colour.{pixel_in, plane_sample, samples_of, from_green}
+use Rattle.ffv1_slice.specs.Colour.{pixel_in, plane_sample}
 use Rattle.ffv1_slice.specs.Plane.{cell, around_at, sample_choices, joined}
-use Rattle.ffv1_slice.specs.Planes.{AreReady, IsLoaded, HoldsAbove, HoldsLines, ComeTo, choices_of_plane, choices_of_planes}
-use Rattle.ffv1_slice.specs.Slice.{first_slot, plane_values, line_choices, row_choices, rows_choices}
+use Rattle.ffv1_slice.specs.Planes.{AreReady, IsLoaded, HoldsAbove, HoldsLines, choices_of_plane, choices_of_planes}
+use Rattle.ffv1_slice.specs.Slice.{first_slot, plane_values, line_choices, row_choices}
 use Rattle.ffv1_slice.specs.Work.{HoldsLine, around_lines, choices_of_line}
-use Rattle.ffv1_slice.proofs.Joining.{joined_same, joined_more, joined_none}
+use Rattle.ffv1_slice.proofs.Joining.{joined_same}
 
 -- places of a line
 pub cell_at : (width : ℕ) (plane : ℕ → ℕ → ℕ) (y x : ℕ) → x < width → cell width plane (y + 2) (x + 2) ≡ plane y x

@@ -1,12 +1,12 @@
 -- The slots of a slice: each choice has one.
-use Rattle.std.proofs.Common.{◌≡◌, ℕ, zero, suc, ◌+◌, ◌-◌, ◌*◌, ◌%◌, ◌^◌, ◌<◌, ◌≤◌, max, List, [], ◌∷◌, ◌++◌, All, Bool, true, false, length, get_or, refl, sym, ap, ◌∙◌, subst, arith, inl, inr}
+use Rattle.std.proofs.Common.{ℕ, zero, suc, ◌+◌, ◌-◌, ◌*◌, ◌%◌, ◌^◌, ◌<◌, ◌≤◌, max, List, [], ◌∷◌, All, Bool, true, false, length, get_or, sym, subst, arith}
 use Rattle.std.proofs.Math.Nat.{mod-lt}
 use Rattle.std.proofs.lemmas.List.Elements.{All-head, All-tail}
 use Rattle.std.specs.Prelude.{ℤ, pos, unsigned_abs}
-use Rattle.range_coder.specs.Choices.{Choice, UseSlots, moved}
+use Rattle.range_coder.specs.Choices.{Choice, UseSlots}
 use Rattle.range_coder.specs.Facts.{SetsOfStates}
 use Rattle.range_coder.specs.Laws.{SymbolSlots}
-use Rattle.range_coder.specs.Symbol.{choice, symbol_choices}
+use Rattle.range_coder.specs.Symbol.{symbol_choices}
 use Rattle.ffv1_params.specs.QuantTables.{QuantSet, TellsContexts, most_contexts}
 use Rattle.ffv1_params.specs.Parameters.{Parameters, AreSound, set_at, no_set}
 use Rattle.ffv1_slice.specs.declared.around.Around.{Around}

@@ -1,5 +1,5 @@
 -- What keeps sums of samples within their words.
-use Rattle.std.specs.Prelude.{◌≡◌, ℕ, ◌+◌, ◌*◌, ◌/◌, ◌<◌, ◌≤◌, List, slice_index}
+use Rattle.std.specs.Prelude.{◌≡◌, ℕ, ◌*◌, ◌/◌, ◌<◌, ◌≤◌, List, slice_index}
 use Rattle.ffv1_slice.specs.declared.around.Around.{Around}
 
 -- each number is below `most`

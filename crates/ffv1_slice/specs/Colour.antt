@@ -1,6 +1,6 @@
--- The colours of a pixel as luma and two differences (RFC 9043, section 3.7.2, "RGB"). `half` is two to the
--- bits of a colour. The differences have `half` added, so that none is below 0.
-use Rattle.std.specs.Prelude.{ℕ, zero, suc, ◌+◌, ◌-◌, ◌*◌, ◌/◌, ◌^◌, ◌==◌, ◌||◌, Bool, if◌then◌else◌, List, slice_index}
+-- The colours of a pixel as luma and two differences (RFC 9043, section 3.7.2, "RGB"), and back. `half` is two to
+-- the bits of a colour. The differences have `half` added, so that none is below 0.
+use Rattle.std.specs.Prelude.{ℕ, zero, suc, ◌+◌, ◌-◌, ◌*◌, ◌/◌, ◌^◌, ◌<◌, ◌≤◌, ◌==◌, ◌||◌, Bool, if◌then◌else◌, List, slice_index}
 
 pub record Pixel : Type 0 where
   pub red : ℕ
@@ -41,3 +41,25 @@ plane_sample half green p (suc (suc plane)) = red_difference half green p
 -- the samples of a tile: of each plane, in each line, at each place
 abbrev pub samples_of : ℕ → ℕ → List ℕ → ℕ → ℕ → ℕ → ℕ
 samples_of bits width tile plane y x = plane_sample (2 ^ bits) (from_green bits) (pixel_in tile (y * width + x)) plane
+
+-- back: the base that three samples tell, with 2 * half added
+abbrev pub raised_base : ℕ → ℕ → ℕ → ℕ → ℕ
+raised_base half y cb cr = y + half / 2 + 2 * half - (cb + cr) / 4
+
+-- and the colour that a difference tells, with as much added
+abbrev pub raised_colour : ℕ → ℕ → ℕ → ℕ
+raised_colour half base difference = difference + base - half
+
+pub record IsColour (half raised : ℕ) : Type 0 where
+  pub low : 2 * half ≤ raised
+  pub high : raised < 3 * half
+
+pub record AreRaised (half base other red : ℕ) : Type 0 where
+  pub base_is : IsColour half base
+  pub other_is : IsColour half other
+  pub red_is : IsColour half red
+
+-- the three colours that three samples tell are all below `half`, and none below 0
+abbrev pub AreColours : ℕ → ℕ → ℕ → ℕ → Type 0
+AreColours half y cb cr =
+    AreRaised half (raised_base half y cb cr) (raised_colour half (raised_base half y cb cr) cb) (raised_colour half (raised_base half y cb cr) cr)

@@ -1,6 +1,6 @@
 -- The samples of a plane: what each is predicted from, in which context its difference is coded, and that difference
 -- (RFC 9043, sections 3.1 to 3.8).
-use Rattle.std.specs.Prelude.{◌≡◌, ℕ, zero, suc, ◌+◌, ◌-◌, ◌*◌, ◌/◌, ◌%◌, slice_index_or, if◌then◌else◌, min, max, Bool, true, List, [], ◌++◌, ℤ, pos, ◌+ℤ◌, ◌-ℤ◌, neg_ℤ, unsigned_abs}
+use Rattle.std.specs.Prelude.{◌≡◌, ℕ, zero, suc, ◌+◌, ◌-◌, ◌*◌, ◌%◌, slice_index_or, if◌then◌else◌, min, max, Bool, true, List, [], ◌++◌, ℤ, pos, ◌+ℤ◌, ◌-ℤ◌, neg_ℤ, unsigned_abs}
 use Rattle.std.specs.Int.{int_rem_euclid, is_negative}
 use Rattle.range_coder.specs.Choices.{Choice, moved}
 use Rattle.range_coder.specs.Symbol.{IsCodable, symbol_choices}

@@ -6,6 +6,7 @@ use Rattle.ffv1_slice.specs.declared.head.SliceHead.{SliceHead}
 use Rattle.ffv1_slice.specs.declared.lines.Lines.{Lines}
 use Rattle.ffv1_slice.specs.declared.lines.Planes.{Planes}
 use Rattle.ffv1_slice.specs.Below.{AreBelow}
+use Rattle.ffv1_slice.specs.Blank.{IsBlank}
 use Rattle.ffv1_slice.specs.Colour.{pixel_in, plane_sample}
 use Rattle.ffv1_slice.specs.Slice.{plane_values, first_slot}
 use Rattle.ffv1_slice.specs.Work.{HoldsLine, choices_of_line}
@@ -57,3 +58,11 @@ pub record ComeTo (half width : ℕ) (samples : ℕ → ℕ → ℕ → ℕ) (y 
   pub luma_ready : AreReady width (2 * half) planes.luma
   pub blue_ready : AreReady width (2 * half) planes.blue
   pub red_ready : AreReady width (2 * half) planes.red
+
+-- the planes above the first line of a slice of this width
+pub record AreBlank (width : ℕ) (planes : Planes) : Type 0 where
+  pub len : ℕ
+  pub long : width + 3 ≤ len
+  pub luma : IsBlank len planes.luma
+  pub blue : IsBlank len planes.blue
+  pub red : IsBlank len planes.red

@@ -1,11 +1,8 @@
 -- Lines of samples as the code holds them: three lines of a plane, each with its borders.
-use Rattle.std.specs.Prelude.{◌≡◌, ℕ, ◌+◌, ◌*◌, ◌<◌, ◌≤◌, Bool, true, List, ◌++◌, length, slice_index, slice_index_or, ℤ}
+use Rattle.std.specs.Prelude.{◌≡◌, ℕ, ◌+◌, ◌<◌, ◌≤◌, List, length, slice_index, slice_index_or, ℤ}
 use Rattle.std.specs.Int.{is_negative}
 use Rattle.range_coder.specs.declared.symbol.Placed.{Placed}
-use Rattle.range_coder.specs.Choices.{Choice, moved}
-use Rattle.range_coder.specs.Coding.{Gets}
-use Rattle.range_coder.specs.Reading.{Reader}
-use Rattle.range_coder.specs.Symbol.{overlong_choices}
+use Rattle.range_coder.specs.Choices.{Choice}
 use Rattle.ffv1_slice.specs.declared.around.Around.{Around}
 use Rattle.ffv1_slice.specs.Plane.{cell, around, prediction, context, difference, slot_in, sample_choices, IsSample, joined, Joins}
 

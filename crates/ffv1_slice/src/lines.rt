@@ -1,6 +1,6 @@
 // The lines of a plane of which samples are predicted.
 
-ghost use Rattle.std.specs.Prelude.{◌≡◌, ◌+◌, ◌<◌, ◌≤◌, length, IfOk};
+ghost use Rattle.std.specs.Prelude.{◌≡◌, ◌+◌, ◌<◌, ◌≤◌, length, replicate, IfOk};
 ghost use Rattle.ffv1_slice.specs.Borders.{IsBordered};
 
 use cook_bits::NoMemory;
@@ -15,7 +15,7 @@ pub(crate) struct Lines {
 }
 
 impl Lines {
-    ghost use Rattle.ffv1_slice.specs.Blank.{IsBlank};
+    ghost use Rattle.ffv1_slice.specs.Blank.{IsBlank, IsCleared};
 
     /// Lines of zeros, with so many places.
     pub(crate) fn new(alloc: Global, len: usize) -> Result<Lines, NoMemory>
@@ -29,6 +29,15 @@ impl Lines {
             above,
             line,
         })
+    }
+
+    /// Fills the lines with zeros.
+    pub(crate) fn clear(&mut self)
+        ensures { IsCleared self.old self.new }
+    {
+        clear(self.above2.as_mut_slice());
+        clear(self.above.as_mut_slice());
+        clear(self.line.as_mut_slice());
     }
 
     /// Goes down a line: the last line is the one above, and another takes its place.
@@ -63,7 +72,7 @@ pub(crate) struct Planes {
 }
 
 impl Planes {
-    ghost use Rattle.ffv1_slice.specs.Blank.{IsBlank};
+    ghost use Rattle.ffv1_slice.specs.Blank.{IsBlank, IsCleared};
 
     /// Lines of zeros, with so many places.
     pub(crate) fn new(alloc: Global, len: usize) -> Result<Planes, NoMemory>
@@ -75,6 +84,17 @@ impl Planes {
         let blue = Lines::new(alloc, len)?;
         let red = Lines::new(alloc, len)?;
         Ok(Planes { luma, blue, red })
+    }
+
+    /// Fills the lines with zeros.
+    pub(crate) fn clear(&mut self)
+        ensures luma { IsCleared self.old.luma self.new.luma }
+        ensures blue { IsCleared self.old.blue self.new.blue }
+        ensures red { IsCleared self.old.red self.new.red }
+    {
+        self.luma.clear();
+        self.blue.clear();
+        self.red.clear();
     }
 }
 
@@ -88,4 +108,11 @@ fn close(above: &[u32], line: &mut [u32], width: usize)
     line[0] = 0;
     line[1] = above[2];
     line[width + 2] = line[width + 1];
+}
+
+// Fills a line with zeros.
+fn clear(line: &mut [u32])
+    ensures { line.new ≡ replicate (length line.old) 0 }
+{
+    line.fill(0);
 }

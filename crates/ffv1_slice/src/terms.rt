@@ -1,8 +1,9 @@
 // What the samples around a sample tell of it: a prediction, and the context of its difference.
 
 ghost use Rattle.std.specs.Prelude.{◌≡◌, ℕ, ◌+◌, ◌-◌, ◌*◌, ◌%◌, ◌^◌, ◌<◌, ◌≤◌, length, max, pos, unsigned_abs, slice_index, ◌+ℤ◌};
+ghost use Rattle.std.specs.Int.{is_negative, int_rem_euclid};
 ghost use Rattle.ffv1_slice.specs.Below.{IsBelow, IsHalf};
-ghost use Rattle.ffv1_slice.specs.Plane.{around, prediction, context, step, value_at, folded, difference};
+ghost use Rattle.ffv1_slice.specs.Plane.{around, prediction, context, step, value_at, folded, difference, restored};
 
 use crate::around::Around;
 
@@ -120,5 +121,45 @@ pub(crate) fn difference_of(half: u32, negative: bool, prediction: u32, sample: 
         folded_of(half, prediction + 2 * half - sample)
     } else {
         folded_of(half, sample + 2 * half - prediction)
+    }
+}
+
+// What is left of a value, divided by `whole`.
+#[inline(always)]
+fn residue_of(whole: u32, value: i32) -> u32
+    requires some { 0 < whole }
+    requires most { whole ≤ 131072 }
+    requires value { unsigned_abs value < 2147483648 }
+    ensures value { result ≡ unsigned_abs (int_rem_euclid value (pos whole)) }
+    ensures below { result < whole }
+{
+    value.rem_euclid(whole as i32) as u32
+}
+
+#[inline(always)]
+fn wrapped(sum: u32, whole: u32) -> u32
+    requires some { 0 < whole }
+    requires most { whole ≤ 131072 }
+    requires sum { sum < 2 * whole }
+    ensures value { result ≡ sum % whole }
+    ensures below { result < whole }
+{
+    if sum >= whole { sum - whole } else { sum }
+}
+
+/// The sample with which a difference is read.
+#[inline(always)]
+#[tactic(auto, unfolding(crate::specs::Plane::restored))]
+pub(crate) fn restored_of(half: u32, negative: bool, prediction: u32, value: i32) -> u32
+    requires half { IsHalf half }
+    requires prediction { prediction < 2 * half }
+    requires value { unsigned_abs value < 2147483648 }
+    ensures value { result ≡ restored half negative prediction value }
+    ensures below { result < 2 * half }
+{
+    if negative {
+        wrapped(prediction + residue_of(2 * half, -value), 2 * half)
+    } else {
+        wrapped(prediction + residue_of(2 * half, value), 2 * half)
     }
 }

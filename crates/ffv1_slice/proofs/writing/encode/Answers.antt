@@ -1,4 +1,4 @@
-use Rattle.std.proofs.Common.{ℕ, ◌≡◌, ◌∙◌, refl, arith, rules}
+use Rattle.std.proofs.Common.{◌∙◌, refl}
 use Rattle.ffv1_slice.proofs.Encoded.{encoded, few_encoded, fresh_given}
 use Rattle.ffv1_slice.proofs.Encoding.{if_ok}
 use Rattle.ffv1_slice.proofs.writing.encode.Goals as goal
