@@ -1,5 +1,5 @@
 -- The frame that is written of a picture means it.
-use Rattle.std.proofs.Common.{◌≡◌, ℕ, zero, suc, ◌+◌, ◌-◌, ◌*◌, ◌/◌, ◌%◌, ◌^◌, ◌<◌, ◌≤◌, ◌⊎◌, inl, inr, Bool, true, false, cond, ◌==◌, List, [], ◌∷◌, length, map, get_or, All, refl, sym, ◌∙◌, ap, ap₂, subst, arith}
+use Rattle.std.proofs.Common.{◌≡◌, ℕ, zero, suc, ◌+◌, ◌-◌, ◌*◌, ◌/◌, ◌%◌, ◌^◌, ◌<◌, ◌≤◌, ◌⊎◌, inl, inr, Bool, true, cond, ◌==◌, List, [], length, map, get_or, All, refl, sym, ◌∙◌, ap, ap₂, subst, arith}
 use Rattle.std.specs.List.{count_by, range_with_len}
 use Rattle.std.proofs.Math.Nat.{mul-le-mul_left}
 use Rattle.std.proofs.lemmas.Bool.{cases_lt}
@@ -10,25 +10,22 @@ use Rattle.std.proofs.lemmas.List.FromFn.{length-map-range_with_len, get_or-map-
 use Rattle.std.proofs.lemmas.List.Sums.{sum_by-cons}
 use Rattle.std.proofs.lemmas.Nat.{div_below, pow_pos}
 use Rattle.cook_bits.specs.Laws.{ParityLeavesZero}
-use Rattle.range_coder.specs.Interval.{coded}
 use Rattle.dpx_packing.specs.declared.tile.Tile.{Tile}
 use Rattle.dpx_packing.specs.Tiles.{has_place, CoverOnce, IsInside as IsTileInside, tile_samples, tile_size, place_of}
 use Rattle.dpx_packing.specs.TileLaws.{TilesHoldTheirPixels, HoldsItsPixels}
 use Rattle.ffv1_params.specs.Laws.{FilmRows}
-use Rattle.ffv1_params.specs.Parameters.{Parameters, AreFilm, AreSound, IsPicture, film_params, film_lines, film_rows}
+use Rattle.ffv1_params.specs.Parameters.{Parameters, AreFilm, IsPicture, film_params, film_lines, film_rows}
 use Rattle.ffv1_slice.specs.declared.head.SliceHead.{SliceHead}
 use Rattle.ffv1_slice.specs.Laws.{IsInside, CodedIsCode, CodedIsHead, CodedIsSome, CodedIsFew}
-use Rattle.ffv1_slice.specs.Slice.{slice_decisions, IsTile, Codes, CodesHead}
-use Rattle.ffv1_frame.specs.declared.cells.Grid.{Grid}
+use Rattle.ffv1_slice.specs.Slice.{IsTile, CodesHead}
 use Rattle.ffv1_frame.specs.Footers.{frame_of_slices, slices_of}
 use Rattle.ffv1_frame.specs.Grid.{edge, IsGrid, cells_of, tile_of}
 use Rattle.ffv1_frame.specs.Laws.{IsSlice}
-use Rattle.ffv1_frame.specs.SliceLaws.{SliceLaws}
-use Rattle.ffv1_frame.specs.Parts.{no_head, slice_at, AreHeads, CutsInto}
+use Rattle.ffv1_frame.specs.Parts.{no_head, slice_at}
 use Rattle.ffv1_frame.specs.Picture.{head_at, CodesTile, IsPictureOf}
 use Rattle.ffv1_frame.specs.Written.{film_head, film_grid, film_tile, film_slice, film_slices, film_frame, AreFilmOf, IsPictureIn}
 use Rattle.ffv1_frame.proofs.CellCover.{pixels-inside}
-use Rattle.ffv1_frame.proofs.EdgeLaws.{edge-first, edge-last, edges-apart}
+use Rattle.ffv1_frame.proofs.EdgeLaws.{edge-first, edge-last}
 use Rattle.ffv1_frame.proofs.FooterLaws.{cut-again}
 
 -- ---- the parameters
@@ -118,11 +115,11 @@ film-samples law bits width height samples tile is inside =
     record {
       long = omega (arith, size);
       within = All-from_get_or (λ s. s < 2 ^ bits) (tile_samples width samples tile) 0 (λ i low.
-      let at = place-of i tile.width tile.height (omega (arith, size, low)) in
-      let same : get_or (tile_samples width samples tile) i 0 ≡ get_or samples (place_of width (tile.x + i / 3 % tile.width) (tile.y + i / 3 / tile.width) (i % 3)) 0 =
-      ap (λ k. get_or (tile_samples width samples tile) k 0) (sym at.3) ∙ holds.each (i / 3 % tile.width) (i / 3 / tile.width) (i % 3) at.0 at.1 at.2 in
-      let P : ℕ → Type 0 = λ n. n < 2 ^ bits in
-      subst P (sym same) (below bits samples (place_of width (tile.x + i / 3 % tile.width) (tile.y + i / 3 / tile.width) (i % 3)) is.within));
+          let at = place-of i tile.width tile.height (omega (arith, size, low)) in
+          let same : get_or (tile_samples width samples tile) i 0 ≡ get_or samples (place_of width (tile.x + i / 3 % tile.width) (tile.y + i / 3 / tile.width) (i % 3)) 0 =
+          ap (λ k. get_or (tile_samples width samples tile) k 0) (sym at.3) ∙ holds.each (i / 3 % tile.width) (i / 3 / tile.width) (i % 3) at.0 at.1 at.2 in
+          let P : ℕ → Type 0 = λ n. n < 2 ^ bits in
+          subst P (sym same) (below bits samples (place_of width (tile.x + i / 3 % tile.width) (tile.y + i / 3 / tile.width) (i % 3)) is.within));
     }
 
 -- ---- its cells
@@ -167,6 +164,16 @@ film-cover rows = record { inside = cells-inside rows 0 rows (omega arith); once
 
 -- ---- the frame
 
+-- what the laws of the crates below say
+pub record SliceLaws : Type 0 where
+  pub code : CodedIsCode
+  pub head : CodedIsHead
+  pub some : CodedIsSome
+  pub few : CodedIsFew
+  pub rows : FilmRows
+  pub pixels : TilesHoldTheirPixels
+  pub parity : ParityLeavesZero
+
 -- a slice of the frame, as what is known of it
 record IsFilmSlice (params : Parameters) (width height : ℕ) (samples : List ℕ) (row : ℕ) : Type 0 where
   pub slice : IsSlice (film_slice params width height samples row)
@@ -189,7 +196,7 @@ film-slice laws params width height samples row are is low =
     (film-small laws.rows params width height row are is.size) in
     record {
       slice = record {
-        some = laws.some params (film_head row) (film_tile params width height row).width (film_tile params width height row).height (row == 0) (tile_samples width samples (film_tile params width height row)) are.sound inside;
+        some = laws.some params (film_head row) (film_tile params width height row).width (film_tile params width height row).height (row == 0) (tile_samples width samples (film_tile params width height row)) are.sound inside wide tile;
         small = below_footer _ few;
       };
       head = laws.head params (film_head row) (film_tile params width height row).width (film_tile params width height row).height (row == 0) (tile_samples width samples (film_tile params width height row)) are.sound inside wide tile;
@@ -223,22 +230,22 @@ film-means laws params width height samples are is =
       heads = map film_head (range_with_len 0 params.rows);
       cut = record {
         slices_are =
-          ap (λ (ec : Bool). slices_of ec (frame_of_slices (film_slices params width height samples))) (film-ec params are.film)
-          ∙ cut-again laws.parity (film_slices params width height samples) (film-slices laws params width height samples are is) (omega (arith, size, rows)) (omega (arith, size, few));
+            ap (λ (ec : Bool). slices_of ec (frame_of_slices (film_slices params width height samples))) (film-ec params are.film)
+            ∙ cut-again laws.parity (film_slices params width height samples) (film-slices laws params width height samples are is) (omega (arith, size, rows)) (omega (arith, size, few));
         heads_are = record {
           count = heads ∙ sym size;
           each = λ k listed.
-            let low : k < params.rows = omega (arith, size, listed) in
-            let P : List ℕ → Type 0 = λ b. CodesHead params (k == 0) b (head_at (map film_head (range_with_len 0 params.rows)) k) in
-            let Q : SliceHead → Type 0 = λ h. CodesHead params (k == 0) (film_slice params width height samples k) h in
-            subst P (sym (slice k low)) (subst Q (sym (head k low)) (film-slice laws params width height samples k are is low).head);
+              let low : k < params.rows = omega (arith, size, listed) in
+              let P : List ℕ → Type 0 = λ b. CodesHead params (k == 0) b (head_at (map film_head (range_with_len 0 params.rows)) k) in
+              let Q : SliceHead → Type 0 = λ h. CodesHead params (k == 0) (film_slice params width height samples k) h in
+              subst P (sym (slice k low)) (subst Q (sym (head k low)) (film-slice laws params width height samples k are is low).head);
         };
         cover = film-cover params.rows;
       };
       long = is.long;
       each = λ k listed.
-        let low : k < params.rows = omega (arith, size, listed) in
-        let P : List ℕ → Type 0 = λ b. CodesTile params (film_grid params width height) k b (head_at (map film_head (range_with_len 0 params.rows)) k) (tile_samples width samples (tile_of (film_grid params width height) (head_at (map film_head (range_with_len 0 params.rows)) k))) in
-        let Q : SliceHead → Type 0 = λ h. CodesTile params (film_grid params width height) k (film_slice params width height samples k) h (tile_samples width samples (tile_of (film_grid params width height) h)) in
-        subst P (sym (slice k low)) (subst Q (sym (head k low)) (film-slice laws params width height samples k are is low).codes);
+          let low : k < params.rows = omega (arith, size, listed) in
+          let P : List ℕ → Type 0 = λ b. CodesTile params (film_grid params width height) k b (head_at (map film_head (range_with_len 0 params.rows)) k) (tile_samples width samples (tile_of (film_grid params width height) (head_at (map film_head (range_with_len 0 params.rows)) k))) in
+          let Q : SliceHead → Type 0 = λ h. CodesTile params (film_grid params width height) k (film_slice params width height samples k) h (tile_samples width samples (tile_of (film_grid params width height) h)) in
+          subst P (sym (slice k low)) (subst Q (sym (head k low)) (film-slice laws params width height samples k are is low).codes);
     }

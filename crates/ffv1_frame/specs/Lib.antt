@@ -5,5 +5,4 @@ pub mod Laws
 pub mod Marks
 pub mod Parts
 pub mod Picture
-pub mod SliceLaws
 pub mod Written

@@ -4,11 +4,11 @@ use Rattle.ffv1_frame.proofs.cutting.read_heads.Goals as goal
 
 pub loop-i-preserved : goal.loop-i-preserved
 loop-i-preserved c =
-    first-more c.args.params.now c.args.bytes.now c.args.parts.now c.loop-i.parts c.loop-i.i blank_part c.in-Ok.head (omega arith) c.loop-i.invariant c.in-Ok.ensures.head
+    first-more c.args.params.now c.args.bytes.now c.args.parts.now c.loop-i.parts c.loop-i.i blank_part c.in-Ok.head (omega arith) c.loop-i.invariant c.in-Ok.ensures.ok
 
 pub returns-in-Err-clause-err : goal.returns-in-Err-clause-err
 returns-in-Err-clause-err c =
-    first-refused c.args.params.now c.args.bytes.now c.args.parts.now c.loop-i.parts c.loop-i.i blank_part c.in-Err.why (omega arith) c.loop-i.invariant c.in-Err.ensures.fault
+    first-refused c.args.params.now c.args.bytes.now c.args.parts.now c.loop-i.parts c.loop-i.i blank_part c.in-Err.why (omega arith) c.loop-i.invariant c.in-Err.ensures.err
 
 pub returns-clause-ok : goal.returns-clause-ok
 returns-clause-ok c =
