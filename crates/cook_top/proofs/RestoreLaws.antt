@@ -105,17 +105,17 @@ law_ungiven told now after pending pending_after pkg dir faults faults_now befor
 law_ungiven told now after pending pending_after pkg dir faults faults_now before restorer sum ungiven.NoMemory NoMemory way is kept said = unfinished told now after pending pending_after pkg dir before sum way is
 law_ungiven told now after pending pending_after pkg dir faults faults_now before restorer sum error status way is kept said = absurd said
 
-pub shown_ungiven : (told now after : Told) (pending pending_after : Pending) (pkg dir : List ℕ) (faults faults_then faults_now sink sink_now : ℕ) (before restorer : Restorer) (sum : RestoreSum) (error : FileError) (status : Status)
+pub shown_ungiven : (workers : ℕ) (told now after : Told) (pending pending_after : Pending) (pkg dir : List ℕ) (faults faults_then faults_now sink sink_now : ℕ) (before restorer : Restorer) (sum : RestoreSum) (error : FileError) (status : Status)
     → IsUnderWay told now pkg dir before sum → faults ≤ faults_then → IsNotGiven now after pending pending_after faults_then faults_now before error → IsStatusOf restorer pkg error status
-    → IsShown (Some (Restore pkg dir)) told faults faults_now sink sink_now status
-shown_ungiven told now after pending pending_after pkg dir faults faults_then faults_now sink sink_now before restorer sum (ungiven.File number why) (PackageRefused fault) way fell is said = tt
-shown_ungiven told now after pending pending_after pkg dir faults faults_then faults_now sink sink_now before restorer sum (ungiven.InTheWay number) (InTheWay name) way fell is said = tt
-shown_ungiven told now after pending pending_after pkg dir faults faults_then faults_now sink sink_now before restorer sum (ungiven.Changed was has) (Changed name had left) way fell is said =
+    → IsShown (Some (Restore workers pkg dir)) told faults faults_now sink sink_now status
+shown_ungiven workers told now after pending pending_after pkg dir faults faults_then faults_now sink sink_now before restorer sum (ungiven.File number why) (PackageRefused fault) way fell is said = tt
+shown_ungiven workers told now after pending pending_after pkg dir faults faults_then faults_now sink sink_now before restorer sum (ungiven.InTheWay number) (InTheWay name) way fell is said = tt
+shown_ungiven workers told now after pending pending_after pkg dir faults faults_then faults_now sink sink_now before restorer sum (ungiven.Changed was has) (Changed name had left) way fell is said =
     ((λ known. is.untold (told_now told now pkg dir before sum way known) (fits_now told now pkg dir before sum way known)), omega (arith, said.1, said.2, is.fewer))
-shown_ungiven told now after pending pending_after pkg dir faults faults_then faults_now sink sink_now before restorer sum (ungiven.Changed was has) NoMemory way fell is said = tt
-shown_ungiven told now after pending pending_after pkg dir faults faults_then faults_now sink sink_now before restorer sum ungiven.Failed ShelfFault way fell is said = let rose = is.0 in omega (arith, rose)
-shown_ungiven told now after pending pending_after pkg dir faults faults_then faults_now sink sink_now before restorer sum ungiven.NoMemory NoMemory way fell is said = tt
-shown_ungiven told now after pending pending_after pkg dir faults faults_then faults_now sink sink_now before restorer sum error status way fell is said = absurd said
+shown_ungiven workers told now after pending pending_after pkg dir faults faults_then faults_now sink sink_now before restorer sum (ungiven.Changed was has) NoMemory way fell is said = tt
+shown_ungiven workers told now after pending pending_after pkg dir faults faults_then faults_now sink sink_now before restorer sum ungiven.Failed ShelfFault way fell is said = let rose = is.0 in omega (arith, rose)
+shown_ungiven workers told now after pending pending_after pkg dir faults faults_then faults_now sink sink_now before restorer sum ungiven.NoMemory NoMemory way fell is said = tt
+shown_ungiven workers told now after pending pending_after pkg dir faults faults_then faults_now sink sink_now before restorer sum error status way fell is said = absurd said
 
 -- ---- the target's faults before the others
 
@@ -147,11 +147,11 @@ reports-refused order told before after sink sink_now (Changed name was now) und
 restore_line-is : (files : List File) (sum : RestoreSum) → IsSumOf files sum → restore_line sum.files sum.bytes ≡ restore_line (length files) (total_length files)
 restore_line-is files sum is = λ i. restore_line (is.files i) (is.bytes i)
 
-pub reports-restored : (told : Told) (pkg dir : List ℕ) (fault : Type 0) (before after : Text) (sink sink_now : ℕ) (status : Status) (sum : RestoreSum) → IsDoneOr fault status → (IsTold told → IsSumOf (meant told pkg).files sum)
-    → IsWritten before after sink sink_now status (restore_line sum.files sum.bytes) → Reports before after sink sink_now status (text_of (Some (Restore pkg dir)) told status)
+pub reports-restored : (workers : ℕ) (told : Told) (pkg dir : List ℕ) (fault : Type 0) (before after : Text) (sink sink_now : ℕ) (status : Status) (sum : RestoreSum) → IsDoneOr fault status → (IsTold told → IsSumOf (meant told pkg).files sum)
+    → IsWritten before after sink sink_now status (restore_line sum.files sum.bytes) → Reports before after sink sink_now status (text_of (Some (Restore workers pkg dir)) told status)
 unfolding report_of IsTold
-reports-restored None pkg dir fault before after sink sink_now Done sum is summed written = tt
-reports-restored None pkg dir fault before after sink sink_now ReportFault sum is summed written = tt
-reports-restored (Some files) pkg dir fault before after sink sink_now Done sum is summed written = subst (IsWritten before after sink sink_now Done) (restore_line-is (meant (Some files) pkg).files sum (summed tt)) written
-reports-restored (Some files) pkg dir fault before after sink sink_now ReportFault sum is summed written = subst (IsWritten before after sink sink_now ReportFault) (restore_line-is (meant (Some files) pkg).files sum (summed tt)) written
-reports-restored told pkg dir fault before after sink sink_now status sum is summed written = absurd is
+reports-restored workers None pkg dir fault before after sink sink_now Done sum is summed written = tt
+reports-restored workers None pkg dir fault before after sink sink_now ReportFault sum is summed written = tt
+reports-restored workers (Some files) pkg dir fault before after sink sink_now Done sum is summed written = subst (IsWritten before after sink sink_now Done) (restore_line-is (meant (Some files) pkg).files sum (summed tt)) written
+reports-restored workers (Some files) pkg dir fault before after sink sink_now ReportFault sum is summed written = subst (IsWritten before after sink sink_now ReportFault) (restore_line-is (meant (Some files) pkg).files sum (summed tt)) written
+reports-restored workers told pkg dir fault before after sink sink_now status sum is summed written = absurd is

@@ -12,9 +12,6 @@ use cook_restore::{FileError, PackageWhy, Restorer, open_package};
 use shelf_core::{Entry, Shelf};
 use std::alloc::Global;
 
-/// How many workers decode frames.
-const WORKERS: u32 = 4;
-
 /// What was restored: how many files, and how many bytes they have.
 #[derive(Clone, Copy, Debug, PartialEq, Eq)]
 pub struct RestoreSum {
@@ -107,9 +104,11 @@ fn with_one_more(sum: RestoreSum, length: u64) -> RestoreSum
 fn restore_files<S: Shelf>(
     alloc: Global,
     shelf: &mut S,
+    workers: u32,
     pkg: &str,
     dir: &str,
 ) -> Result<RestoreSum, Status>
+    requires workers { (1 ≤ workers) × (workers ≤ 64) }
     requires empty { under (S.files shelf.old) dir.now ≡ [] }
     ensures done { IfOk result (λ _. IsRestored (S.files shelf.old) (S.files shelf.new) pkg.now dir.now None) }
     ensures sum { IfOk result (λ sum. IsTold (S.files shelf.old) → IsSumOf (meant (S.files shelf.old) pkg.now).files sum) }
@@ -117,10 +116,10 @@ fn restore_files<S: Shelf>(
     ensures undone { IfErr result IsUndone }
     ensures sealed { IfOk result (λ _. S.unsealed shelf.new ≡ S.unsealed shelf.old) }
     ensures unsealed { IfErr result (KeepsUnsealed (S.unsealed shelf.old) (S.unsealed shelf.new)) }
-    ensures cause { (sink sink_now : ℕ) → IfErr result (IsShown (Some (OrderRestore pkg.now dir.now)) (S.files shelf.old) (S.faults shelf.old) (S.faults shelf.new) sink sink_now) }
+    ensures cause { (sink sink_now : ℕ) → IfErr result (IsShown (Some (OrderRestore workers pkg.now dir.now)) (S.files shelf.old) (S.faults shelf.old) (S.faults shelf.new) sink sink_now) }
     ensures kept { S.faults shelf.old ≤ S.faults shelf.new }
 {
-    let mut restorer = open_package(alloc, shelf, pkg, Some(dir), WORKERS)?;
+    let mut restorer = open_package(alloc, shelf, pkg, Some(dir), workers)?;
     let mut sum = RestoreSum { files: 0, bytes: 0 };
     loop {
         match restorer.next_file(alloc, shelf) {
@@ -136,18 +135,20 @@ fn restore_files<S: Shelf>(
 pub fn restore_package<S: Shelf>(
     alloc: Global,
     shelf: &mut S,
+    workers: u32,
     pkg: &str,
     dir: &str,
 ) -> Result<RestoreSum, Status>
+    requires workers { (1 ≤ workers) × (workers ≤ 64) }
     ensures done { IfOk result (λ _. IsRestored (S.files shelf.old) (S.files shelf.new) pkg.now dir.now None) }
     ensures sum { IfOk result (λ sum. IsTold (S.files shelf.old) → IsSumOf (meant (S.files shelf.old) pkg.now).files sum) }
     ensures stopped { IfErr result (RestoreLaw (S.files shelf.old) (S.files shelf.new) pkg.now dir.now) }
     ensures undone { IfErr result IsUndone }
     ensures sealed { IfOk result (λ _. S.unsealed shelf.new ≡ S.unsealed shelf.old) }
     ensures unsealed { IfErr result (KeepsUnsealed (S.unsealed shelf.old) (S.unsealed shelf.new)) }
-    ensures cause { (sink sink_now : ℕ) → IfErr result (IsShown (Some (OrderRestore pkg.now dir.now)) (S.files shelf.old) (S.faults shelf.old) (S.faults shelf.new) sink sink_now) }
+    ensures cause { (sink sink_now : ℕ) → IfErr result (IsShown (Some (OrderRestore workers pkg.now dir.now)) (S.files shelf.old) (S.faults shelf.old) (S.faults shelf.new) sink sink_now) }
     ensures kept { S.faults shelf.old ≤ S.faults shelf.new }
 {
     make_target(shelf, dir)?;
-    restore_files(alloc, shelf, pkg, dir)
+    restore_files(alloc, shelf, workers, pkg, dir)
 }

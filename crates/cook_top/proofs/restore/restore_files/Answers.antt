@@ -45,4 +45,4 @@ returns-in-Err-clause-stopped g c =
 
 pub returns-in-Err-clause-cause : goal.returns-in-Err-clause-cause
 returns-in-Err-clause-cause g c = λ sink sink_now.
-    shown_ungiven _ _ _ _ _ _ _ _ _ _ _ _ c.loop-file.restorer c.next_file.new.self c.loop-file.sum c.in-Err.error c.not_given.result c.loop-file.invariant.way c.loop-file.invariant.faults c.in-Err.ensures.stopped c.not_given.ensures
+    shown_ungiven c.args.workers _ _ _ _ _ _ _ _ _ _ _ _ c.loop-file.restorer c.next_file.new.self c.loop-file.sum c.in-Err.error c.not_given.result c.loop-file.invariant.way c.loop-file.invariant.faults c.in-Err.ensures.stopped c.not_given.ensures
