@@ -1,10 +1,9 @@
 // Restoring: the files of a package, given back one by one into an empty target.
 ghost use Rattle.std.specs.Prelude.{◌≡◌, ◌≤◌, ◌<◌, ◌+◌, ◌*◌, ◌^◌, ℕ, [], length, IfOk, IfErr, OnOk, None, Some};
-ghost use Rattle.shelf_core.specs.Told.{IsTold, under};
-ghost use Rattle.cook_top.specs.Laws.{KeepsUnsealed, IsShown};
+ghost use Rattle.shelf_core.specs.Reads.{CountsStay, OnlyReads};
+ghost use Rattle.cook_top.specs.Laws.{KeepsSealed, ShowsFor};
 ghost use Rattle.cook_top.specs.Orders.Order.{Restore as OrderRestore};
-ghost use Rattle.cook_top.specs.RestoreLaw.{RestoreLaw, IsRestored, meant};
-ghost use Rattle.cook_top.specs.Restoring.{FirstName, IsFirstPlace, IsNoTarget, IsNumbered, IsStatusOf, IsSumOf, IsUndone};
+ghost use Rattle.cook_top.specs.Restoring.{CountsFiles, FirstName, IsEmptyRoot, IsFirstPlace, IsNumbered, IsStatusOf, IsUndone, LacksTarget, Restored, SealsAll, StopsRestoring};
 
 use crate::Status;
 use cook_bits::{Name, NoMemory};
@@ -47,11 +46,9 @@ fn first_name(mut entries: Vec<Entry>) -> Option<Name>
 
 // Makes the target, in which nothing may stand.
 fn make_target<S: Shelf>(shelf: &mut S, dir: &str) -> Result<(), Status>
-    ensures empty { OnOk result (under (S.files shelf.old) dir.now ≡ []) }
-    ensures stopped { IfErr result (IsNoTarget (S.files shelf.old) dir.now (S.faults shelf.old) (S.faults shelf.new)) }
-    ensures files { S.files shelf.new ≡ S.files shelf.old }
-    ensures unsealed { S.unsealed shelf.new ≡ S.unsealed shelf.old }
-    ensures kept { S.faults shelf.old ≤ S.faults shelf.new }
+    ensures empty { OnOk result (IsEmptyRoot S.Shelf shelf.old dir.now) }
+    ensures stopped { IfErr result (LacksTarget S.Shelf shelf.old shelf.new dir.now) }
+    ensures kept { OnlyReads S.Shelf shelf.old shelf.new }
 {
     shelf.make_folder(dir)?;
     let entries = shelf.list(dir)?;
@@ -109,15 +106,15 @@ fn restore_files<S: Shelf>(
     dir: &str,
 ) -> Result<RestoreSum, Status>
     requires workers { (1 ≤ workers) × (workers ≤ 64) }
-    requires empty { under (S.files shelf.old) dir.now ≡ [] }
-    ensures done { IfOk result (λ _. IsRestored (S.files shelf.old) (S.files shelf.new) pkg.now dir.now None) }
-    ensures sum { IfOk result (λ sum. IsTold (S.files shelf.old) → IsSumOf (meant (S.files shelf.old) pkg.now).files sum) }
-    ensures stopped { IfErr result (RestoreLaw (S.files shelf.old) (S.files shelf.new) pkg.now dir.now) }
+    requires empty { IsEmptyRoot S.Shelf shelf.old dir.now }
+    ensures done { IfOk result (λ _. Restored S.Shelf shelf.old shelf.new pkg.now dir.now None) }
+    ensures sum { IfOk result (CountsFiles S.Shelf shelf.old pkg.now) }
+    ensures stopped { IfErr result (StopsRestoring S.Shelf shelf.old shelf.new pkg.now dir.now) }
     ensures undone { IfErr result IsUndone }
-    ensures sealed { IfOk result (λ _. S.unsealed shelf.new ≡ S.unsealed shelf.old) }
-    ensures unsealed { IfErr result (KeepsUnsealed (S.unsealed shelf.old) (S.unsealed shelf.new)) }
-    ensures cause { (sink sink_now : ℕ) → IfErr result (IsShown (Some (OrderRestore workers pkg.now dir.now)) (S.files shelf.old) (S.faults shelf.old) (S.faults shelf.new) sink sink_now) }
-    ensures kept { S.faults shelf.old ≤ S.faults shelf.new }
+    ensures sealed { OnOk result (SealsAll S.Shelf shelf.old shelf.new) }
+    ensures unsealed { IfErr result (KeepsSealed S.Shelf shelf.old shelf.new) }
+    ensures cause { (sink sink_now : ℕ) → IfErr result (ShowsFor S.Shelf (Some (OrderRestore workers pkg.now dir.now)) shelf.old shelf.new sink sink_now) }
+    ensures counts { CountsStay S.Shelf shelf.old shelf.new }
 {
     let mut restorer = open_package(alloc, shelf, pkg, Some(dir), workers)?;
     let mut sum = RestoreSum { files: 0, bytes: 0 };
@@ -140,14 +137,14 @@ pub fn restore_package<S: Shelf>(
     dir: &str,
 ) -> Result<RestoreSum, Status>
     requires workers { (1 ≤ workers) × (workers ≤ 64) }
-    ensures done { IfOk result (λ _. IsRestored (S.files shelf.old) (S.files shelf.new) pkg.now dir.now None) }
-    ensures sum { IfOk result (λ sum. IsTold (S.files shelf.old) → IsSumOf (meant (S.files shelf.old) pkg.now).files sum) }
-    ensures stopped { IfErr result (RestoreLaw (S.files shelf.old) (S.files shelf.new) pkg.now dir.now) }
+    ensures done { IfOk result (λ _. Restored S.Shelf shelf.old shelf.new pkg.now dir.now None) }
+    ensures sum { IfOk result (CountsFiles S.Shelf shelf.old pkg.now) }
+    ensures stopped { IfErr result (StopsRestoring S.Shelf shelf.old shelf.new pkg.now dir.now) }
     ensures undone { IfErr result IsUndone }
-    ensures sealed { IfOk result (λ _. S.unsealed shelf.new ≡ S.unsealed shelf.old) }
-    ensures unsealed { IfErr result (KeepsUnsealed (S.unsealed shelf.old) (S.unsealed shelf.new)) }
-    ensures cause { (sink sink_now : ℕ) → IfErr result (IsShown (Some (OrderRestore workers pkg.now dir.now)) (S.files shelf.old) (S.faults shelf.old) (S.faults shelf.new) sink sink_now) }
-    ensures kept { S.faults shelf.old ≤ S.faults shelf.new }
+    ensures sealed { OnOk result (SealsAll S.Shelf shelf.old shelf.new) }
+    ensures unsealed { IfErr result (KeepsSealed S.Shelf shelf.old shelf.new) }
+    ensures cause { (sink sink_now : ℕ) → IfErr result (ShowsFor S.Shelf (Some (OrderRestore workers pkg.now dir.now)) shelf.old shelf.new sink sink_now) }
+    ensures counts { CountsStay S.Shelf shelf.old shelf.new }
 {
     make_target(shelf, dir)?;
     restore_files(alloc, shelf, workers, pkg, dir)

@@ -25,10 +25,10 @@ pub returns-in-Ok-clause-attached : goal.returns-in-Ok-clause-attached
 returns-in-Ok-clause-attached g c =
     let head : c.as_slice.result.now ≡ attached_head c.args.file.name.now false c.args.file.uid c.args.file.len = search rules in
     record {
-      files = attached_both _ _ _ _ _ _ _ _ _ _ c.requires.measured c.requires.apart head c.in_ok-append_piece.ensures.ok.files c.in-Ok.ensures.copied;
-      unsealed = c.copy_part.ensures.unsealed ∙ c.in_ok-append_piece.ensures.ok.unsealed;
-      faults = omega (arith, c.in_ok-append_piece.ensures.ok.faults, c.copy_part.ensures.cause.faults_kept);
-      starved = omega (arith, c.in_ok-append_piece.ensures.ok.starved, c.copy_part.ensures.cause.starved_kept);
+      files = attached_both _ _ _ _ _ _ _ _ _ _ c.requires.measured c.requires.apart head c.in_ok-append_piece.ensures.ok.files c.in-Ok.ensures.copied.files;
+      unsealed = c.in-Ok.ensures.copied.unsealed ∙ c.in_ok-append_piece.ensures.ok.unsealed;
+      faults = omega (arith, c.in_ok-append_piece.ensures.ok.faults, c.in-Ok.ensures.copied.faults);
+      starved = omega (arith, c.in_ok-append_piece.ensures.ok.starved, c.in-Ok.ensures.copied.starved);
     }
 
 pub returns-in-Ok-clause-sum : goal.returns-in-Ok-clause-sum
@@ -38,8 +38,8 @@ pub returns-clause-stopped : goal.returns-clause-stopped
 returns-clause-stopped g c =
     let head : c.as_slice.result.now ≡ attached_head c.args.file.name.now false c.args.file.uid c.args.file.len = search rules in
     record {
-      files = stopped_in_content _ _ _ _ _ _ _ _ _ _ c.requires.measured c.requires.apart head c.in_ok-append_piece.ensures.ok.files c.in-Err.ensures.stopped;
-      unsealed = c.copy_part.ensures.unsealed ∙ c.in_ok-append_piece.ensures.ok.unsealed;
-      faults = omega (arith, c.in_ok-append_piece.ensures.ok.faults, c.copy_part.ensures.cause.faults_kept);
-      starved = omega (arith, c.in_ok-append_piece.ensures.ok.starved, c.copy_part.ensures.cause.starved_kept);
+      files = stopped_in_content _ _ _ _ _ _ _ _ _ _ c.requires.measured c.requires.apart head c.in_ok-append_piece.ensures.ok.files c.in-Err.ensures.stopped.files;
+      unsealed = c.in-Err.ensures.stopped.unsealed ∙ c.in_ok-append_piece.ensures.ok.unsealed;
+      faults = omega (arith, c.in_ok-append_piece.ensures.ok.faults, c.in-Err.ensures.stopped.faults);
+      starved = omega (arith, c.in_ok-append_piece.ensures.ok.starved, c.in-Err.ensures.stopped.starved);
     }
