@@ -6,7 +6,7 @@ use Rattle.reversal.specs.SideData.{HasShape, names_of}
 use Rattle.shelf_core.specs.Told.{Told, IsTold, HasFile, IsApart, content}
 use Rattle.shelf_core.specs.declared.shelf.Shelf.{Ghosts}
 use Rattle.cook_pack.specs.declared.planned_file.PlannedFile.{PlannedFile}
-use Rattle.cook_pack.specs.Package.{other_record}
+use Rattle.cook_pack.specs.Package.{attached_from, attachments_bytes, attachments_of, other_record, others_of, package_of}
 use Rattle.cook_pack.specs.Planned.{Planned, IsSound}
 
 -- ---- contents
@@ -25,6 +25,21 @@ file_on g shelf root file = file_of (g.files shelf) root file
 
 abbrev pub files_on : {S : Type 0} → Ghosts S → S → Planned → List File
 files_on g shelf plan = planned_files (g.files shelf) plan
+
+-- the other files of a plan as attachments
+abbrev pub others_on : {S : Type 0} → Ghosts S → S → Planned → List ℕ
+others_on g shelf plan = attached_from 1 (others_of (files_on g shelf plan))
+
+-- all attachments, and the element of them
+abbrev pub attachments_on : {S : Type 0} → Ghosts S → S → Planned → List ℕ
+attachments_on g shelf plan = attachments_of (files_on g shelf plan)
+
+abbrev pub attachments_bytes_on : {S : Type 0} → Ghosts S → S → Planned → List ℕ
+attachments_bytes_on g shelf plan = attachments_bytes (files_on g shelf plan)
+
+-- the package
+abbrev pub package_on : {S : Type 0} → Ghosts S → S → Planned → ℕ → List ℕ
+package_on g shelf plan rate = package_of (files_on g shelf plan) rate
 
 -- ---- what can be attached
 

@@ -2,8 +2,8 @@
 ghost use Rattle.std.specs.Prelude.{◌≡◌, ◌<◌, ◌^◌, length, false, IfOk, OnOk, OnErr, IfErr};
 ghost use Rattle.shelf_core.specs.Reads.{Tells, Has, Differ, IsUnsealed, bytes_of};
 ghost use Rattle.shelf_core.specs.Writes.{Grew, GrewInPart};
-ghost use Rattle.cook_pack.specs.Attaching.{AreRecordsOf, CanAttach, CanAttachFile, IsRecordOf, file_on, files_on};
-ghost use Rattle.cook_pack.specs.Package.{attached_from, attachment, others_of};
+ghost use Rattle.cook_pack.specs.Attaching.{AreRecordsOf, CanAttach, CanAttachFile, IsRecordOf, file_on, files_on, others_on};
+ghost use Rattle.cook_pack.specs.Package.{attachment, others_of};
 ghost use Rattle.cook_pack.specs.Pieces.{attached_file};
 ghost use Rattle.cook_pack.specs.Planned.{Planned, IsInPlan};
 ghost use Rattle.cook_pack.specs.Stops.{StopsFor, StopsFrom};
@@ -65,12 +65,15 @@ pub fn attach_file<S: Shelf>(
     requires target { Has S.Shelf shelf.old to.now }
     requires apart { Differ S.Shelf shelf.old from.now to.now }
     requires measured { Tells S.Shelf shelf.old → file.len ≡ length (bytes_of S.Shelf shelf.old from.now) }
-    ensures attached { let whole = attached_file file.entry.name.now false file.entry.uid (bytes_of S.Shelf shelf.old from.now) in
+    ensures attached { let content = bytes_of S.Shelf shelf.old from.now in
+        let whole = attached_file file.entry.name.now false file.entry.uid content in
         OnOk result (Grew S.Shelf shelf.old shelf.new to.now whole) }
     ensures sum { IfOk result (λ sum. Tells S.Shelf shelf.old → sum ≡ md5 (bytes_of S.Shelf shelf.old from.now)) }
-    ensures stopped { let whole = attached_file file.entry.name.now false file.entry.uid (bytes_of S.Shelf shelf.old from.now) in
+    ensures stopped { let content = bytes_of S.Shelf shelf.old from.now in
+        let whole = attached_file file.entry.name.now false file.entry.uid content in
         OnErr result (GrewInPart S.Shelf shelf.old shelf.new to.now whole) }
-    ensures cause { (plan : Planned) → IsInPlan plan file.entry.name.now file.entry.len → IfErr result (StopsFor S.Shelf shelf.old shelf.new plan) }
+    ensures cause { (plan : Planned) → IsInPlan plan file.entry.name.now file.entry.len
+        → IfErr result (StopsFor S.Shelf shelf.old shelf.new plan) }
 {
     let head = attached_head(alloc, file.name, false, file.uid, file.len)?;
     append_piece(shelf, to, head.as_slice())?;
@@ -100,10 +103,13 @@ fn attach_planned<S: Shelf>(
     requires ready { CanAttachFile S.Shelf shelf.old root.now to.now file.now }
     requires open { IsUnsealed S.Shelf shelf.old to.now }
     requires target { Has S.Shelf shelf.old to.now }
-    ensures attached { OnOk result (Grew S.Shelf shelf.old shelf.new to.now (attachment uid (file_on S.Shelf shelf.old root.now file.now))) }
+    ensures attached { let file = file_on S.Shelf shelf.old root.now file.now in
+        OnOk result (Grew S.Shelf shelf.old shelf.new to.now (attachment uid file)) }
     ensures record { IfOk result (IsRecordOf S.Shelf shelf.old (file_on S.Shelf shelf.old root.now file.now)) }
-    ensures stopped { OnErr result (GrewInPart S.Shelf shelf.old shelf.new to.now (attachment uid (file_on S.Shelf shelf.old root.now file.now))) }
-    ensures cause { (plan : Planned) → IsInPlan plan file.now.name file.now.length → IfErr result (StopsFor S.Shelf shelf.old shelf.new plan) }
+    ensures stopped { let file = file_on S.Shelf shelf.old root.now file.now in
+        OnErr result (GrewInPart S.Shelf shelf.old shelf.new to.now (attachment uid file)) }
+    ensures cause { (plan : Planned) → IsInPlan plan file.now.name file.now.length
+        → IfErr result (StopsFor S.Shelf shelf.old shelf.new plan) }
 {
     let name = file.name.as_str();
     let from = full_name(alloc, root, name)?;
@@ -145,9 +151,10 @@ pub fn attach_others<S: Shelf>(
     requires ready { CanAttach S.Shelf shelf.old plan.now to.now }
     requires open { IsUnsealed S.Shelf shelf.old to.now }
     requires target { Has S.Shelf shelf.old to.now }
-    ensures attached { OnOk result (Grew S.Shelf shelf.old shelf.new to.now (attached_from 1 (others_of (files_on S.Shelf shelf.old plan.now)))) }
-    ensures records { IfOk result (λ records. AreRecordsOf S.Shelf shelf.old (others_of (files_on S.Shelf shelf.old plan.now)) records.items) }
-    ensures stopped { OnErr result (GrewInPart S.Shelf shelf.old shelf.new to.now (attached_from 1 (others_of (files_on S.Shelf shelf.old plan.now)))) }
+    ensures attached { OnOk result (Grew S.Shelf shelf.old shelf.new to.now (others_on S.Shelf shelf.old plan.now)) }
+    ensures records { let files = others_of (files_on S.Shelf shelf.old plan.now) in
+        IfOk result (λ records. AreRecordsOf S.Shelf shelf.old files records.items) }
+    ensures stopped { OnErr result (GrewInPart S.Shelf shelf.old shelf.new to.now (others_on S.Shelf shelf.old plan.now)) }
     ensures cause { IfErr result (StopsFor S.Shelf shelf.old shelf.new plan.now) }
 {
     let mut held = buffer_of(alloc, PIECE)?;

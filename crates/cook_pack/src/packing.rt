@@ -4,8 +4,8 @@ ghost use Rattle.cook_bits.specs.Names.{File};
 ghost use Rattle.reversal.specs.SideData.{AreRecords};
 ghost use Rattle.shelf_core.specs.Reads.{CountsStay, Has, IsUnsealed, Tells};
 ghost use Rattle.shelf_core.specs.Writes.{Created, Grew, GrewInPart, Wrote};
-ghost use Rattle.cook_pack.specs.Attaching.{CanAttach, files_on};
-ghost use Rattle.cook_pack.specs.Package.{attachments_bytes, attachments_of, package_of, side_attached};
+ghost use Rattle.cook_pack.specs.Attaching.{CanAttach, attachments_bytes_on, attachments_on, package_on};
+ghost use Rattle.cook_pack.specs.Package.{package_of, side_attached};
 ghost use Rattle.cook_pack.specs.Planned.{Planned, FitsShelf, directory_of};
 ghost use Rattle.cook_pack.specs.Stops.{StopsFor, LeavesFor, IsNotPacked, NotCreated};
 ghost use Rattle.cook_pack.specs.Sum.{IsSumOf};
@@ -75,8 +75,8 @@ fn attach_all<S: Shelf>(
     requires ready { CanAttach S.Shelf shelf.old plan.now to.now }
     requires open { IsUnsealed S.Shelf shelf.old to.now }
     requires target { Has S.Shelf shelf.old to.now }
-    ensures attached { OnOk result (Grew S.Shelf shelf.old shelf.new to.now (attachments_of (files_on S.Shelf shelf.old plan.now))) }
-    ensures stopped { OnErr result (GrewInPart S.Shelf shelf.old shelf.new to.now (attachments_of (files_on S.Shelf shelf.old plan.now))) }
+    ensures attached { OnOk result (Grew S.Shelf shelf.old shelf.new to.now (attachments_on S.Shelf shelf.old plan.now)) }
+    ensures stopped { OnErr result (GrewInPart S.Shelf shelf.old shelf.new to.now (attachments_on S.Shelf shelf.old plan.now)) }
     ensures cause { IfErr result (StopsFor S.Shelf shelf.old shelf.new plan.now) }
 {
     let attached = attach_others(alloc, shelf, plan, to)?;
@@ -96,10 +96,10 @@ fn write_attachments<S: Shelf>(
     requires ready { CanAttach S.Shelf shelf.old plan.now to.now }
     requires open { IsUnsealed S.Shelf shelf.old to.now }
     requires target { Has S.Shelf shelf.old to.now }
-    ensures written { OnOk result (Grew S.Shelf shelf.old shelf.new to.now (attachments_bytes (files_on S.Shelf shelf.old plan.now))) }
-    ensures bytes { IfOk result (λ bytes. Tells S.Shelf shelf.old → bytes ≡ length (attachments_bytes (files_on S.Shelf shelf.old plan.now))) }
+    ensures written { OnOk result (Grew S.Shelf shelf.old shelf.new to.now (attachments_bytes_on S.Shelf shelf.old plan.now)) }
+    ensures bytes { IfOk result (λ bytes. Tells S.Shelf shelf.old → bytes ≡ length (attachments_bytes_on S.Shelf shelf.old plan.now)) }
     ensures small { IfOk result (λ bytes. bytes < 2 ^ 55) }
-    ensures stopped { OnErr result (GrewInPart S.Shelf shelf.old shelf.new to.now (attachments_bytes (files_on S.Shelf shelf.old plan.now))) }
+    ensures stopped { OnErr result (GrewInPart S.Shelf shelf.old shelf.new to.now (attachments_bytes_on S.Shelf shelf.old plan.now)) }
     ensures cause { IfErr result (StopsFor S.Shelf shelf.old shelf.new plan.now) }
 {
     let content = attachments_len(plan);
@@ -119,9 +119,9 @@ fn write_package<S: Shelf>(
     requires ready { CanAttach S.Shelf shelf.old plan.now to.now }
     requires open { IsUnsealed S.Shelf shelf.old to.now }
     requires target { Has S.Shelf shelf.old to.now }
-    ensures written { (rate : ℕ) → OnOk result (Grew S.Shelf shelf.old shelf.new to.now (package_of (files_on S.Shelf shelf.old plan.now) rate)) }
-    ensures bytes { (rate : ℕ) → IfOk result (λ bytes. Tells S.Shelf shelf.old → bytes ≡ length (package_of (files_on S.Shelf shelf.old plan.now) rate)) }
-    ensures stopped { (rate : ℕ) → OnErr result (GrewInPart S.Shelf shelf.old shelf.new to.now (package_of (files_on S.Shelf shelf.old plan.now) rate)) }
+    ensures written { (rate : ℕ) → OnOk result (Grew S.Shelf shelf.old shelf.new to.now (package_on S.Shelf shelf.old plan.now rate)) }
+    ensures bytes { (rate : ℕ) → IfOk result (λ bytes. Tells S.Shelf shelf.old → bytes ≡ length (package_on S.Shelf shelf.old plan.now rate)) }
+    ensures stopped { (rate : ℕ) → OnErr result (GrewInPart S.Shelf shelf.old shelf.new to.now (package_on S.Shelf shelf.old plan.now rate)) }
     ensures cause { IfErr result (StopsFor S.Shelf shelf.old shelf.new plan.now) }
 {
     let header = header(alloc)?;

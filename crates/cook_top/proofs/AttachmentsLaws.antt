@@ -10,7 +10,7 @@ use Rattle.ebml_core.specs.Element.{element}
 use Rattle.reversal.specs.SideData.{HasSum, names_of, side_data_len, side_data_of}
 use Rattle.reversal.proofs.Lengths.{length_is}
 use Rattle.cook_pack.specs.Pieces.{attached_file}
-use Rattle.cook_pack.specs.Package.{attached_from, attachments_of, other_record, others_of}
+use Rattle.cook_pack.specs.Package.{attached_from, attachments_of, other_record}
 use Rattle.cook_pack.proofs.PlannedLaws.{others-all, short_name}
 use Rattle.cook_restore.specs.declared.matroska_read.parts.Element.{Element}
 use Rattle.cook_restore.specs.declared.matroska_read.files.FileAt.{FileAt}

@@ -8,7 +8,6 @@ use Rattle.cook_pack.specs.Package.{attachments_bytes, attachments_of, package_o
 use Rattle.cook_pack.proofs.PlannedLaws.{others-all}
 use Rattle.cook_pack.proofs.PieceLaws.{short_info}
 use Rattle.cook_restore.specs.declared.matroska_read.parts.Element.{Element}
-use Rattle.cook_restore.specs.declared.matroska_read.files.FileAt.{FileAt}
 use Rattle.shelf_reader.specs.Readings.{gives}
 use Rattle.shelf_reader.specs.Walk.{walked}
 use Rattle.cook_restore.specs.declared.matroska_read.parts.SegmentSeen.{SegmentSeen}

@@ -1,5 +1,5 @@
 -- The package of a planned directory means the directory.
-use Rattle.std.proofs.Common.{◌≡◌, ◌≤◌, List, [], ◌∷◌, ℕ, None, All, IsUtf8, map, refl, ap, ◌∙◌, subst, arith}
+use Rattle.std.proofs.Common.{◌≡◌, ◌≤◌, List, [], ◌∷◌, ℕ, None, All, IsUtf8, map, refl, ap, ◌∙◌, subst}
 use Rattle.cook_bits.specs.Names.{File}
 use Rattle.shelf_core.specs.Reads.{Tells}
 use Rattle.shelf_core.specs.Told.{under}
@@ -22,5 +22,5 @@ planned_means g shelf dir plan rate is low high known =
     let told = g.files shelf in
     let fits = is.fits known in
     let texts : All IsUtf8 (file_names (under told dir)) =
-        subst (All IsUtf8) (ap names_planned fits.files ∙ names_kept (under told plan.root) ∙ ap (λ root. file_names (under told root)) is.at_root) is.sound.texts in
+    subst (All IsUtf8) (ap names_planned fits.files ∙ names_kept (under told plan.root) ∙ ap (λ root. file_names (under told root)) is.at_root) is.sound.texts in
     package_means (under told dir) rate (is_directory-under told dir texts) (subst (λ root. IsInProfile (under told root)) is.at_root fits.in_profile) low high

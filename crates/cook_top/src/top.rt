@@ -11,7 +11,7 @@ ghost use Rattle.cook_top.specs.Statuses.{status_of_pack_error};
 ghost use Rattle.cook_top.specs.Texts.{line_of, pack_line, restore_line};
 
 use crate::restore::{RestoreSum, restore_package};
-use crate::{Order, Status, Usage, read_words, write_line, write_packed, write_restored};
+use crate::{Order, Status, read_words, write_line, write_packed, write_restored};
 use cook_pack::{Options, PackError, PackSum, pack, plan};
 use shelf_core::{Shelf, Sink, SinkFailed};
 use std::alloc::Global;
@@ -149,12 +149,21 @@ pub fn cook<S: Shelf, O: Sink>(
     ensures complete { Tells S.Shelf shelf.old → NeverFailed S.Shelf shelf.old shelf.new → NeverRefused O.Sink out.old out.new
         → AnswersFirst S.Shelf shelf.old (order_of (map string_bytes words.now)) result }
 {
-    match read_words(words) {
-        Ok(Order::Pack { workers, rate, dir, pkg }) => {
+    let Ok(order) = read_words(words) else {
+        return refuse(out, Status::Usage);
+    };
+    match order {
+        Order::Pack {
+            workers,
+            rate,
+            dir,
+            pkg,
+        } => {
             let options = Options { workers, rate };
             pack_order(alloc, shelf, out, options, dir, pkg)
         }
-        Ok(Order::Restore { workers, pkg, dir }) => restore_order(alloc, shelf, out, workers, pkg, dir),
-        Err(Usage) => refuse(out, Status::Usage),
+        Order::Restore { workers, pkg, dir } => {
+            restore_order(alloc, shelf, out, workers, pkg, dir)
+        }
     }
 }
