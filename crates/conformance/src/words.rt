@@ -5,12 +5,6 @@ use crate::{answer, parse};
 use cook_top::{Order, Usage, read_words};
 use std::alloc::Global;
 
-/// How many workers an order has, as no word says it yet.
-const WORKERS: u32 = 4;
-
-/// How many frames a second an order has, as no word says it yet.
-const RATE: u32 = 24;
-
 /// A case of a command line.
 #[derive(Debug, Drop)]
 pub struct WordsCase(Vec<String>);
@@ -43,15 +37,20 @@ fn texts_read(alloc: Global, words: &[&str]) -> Result<Vec<String>, Stop> {
 
 fn order_told(alloc: Global, order: Order<'_>) -> Result<String, Stop> {
     match order {
-        Order::Pack { dir, pkg } => {
+        Order::Pack {
+            workers,
+            rate,
+            dir,
+            pkg,
+        } => {
             let dir = answer::bytes(alloc, dir.as_bytes())?;
             let pkg = answer::bytes(alloc, pkg.as_bytes())?;
-            Ok(format!(in alloc; "pack {WORKERS} {RATE} {dir} {pkg}")?)
+            Ok(format!(in alloc; "pack {workers} {rate} {dir} {pkg}")?)
         }
-        Order::Restore { pkg, dir } => {
+        Order::Restore { workers, pkg, dir } => {
             let pkg = answer::bytes(alloc, pkg.as_bytes())?;
             let dir = answer::bytes(alloc, dir.as_bytes())?;
-            Ok(format!(in alloc; "restore {WORKERS} {pkg} {dir}")?)
+            Ok(format!(in alloc; "restore {workers} {pkg} {dir}")?)
         }
     }
 }

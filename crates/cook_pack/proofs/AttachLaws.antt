@@ -1,6 +1,8 @@
 -- Laws of an attachment that is appended in two pieces.
-use Rattle.std.proofs.Common.{◌≡◌, ℕ, Bool, List, ◌++◌, ◌≤◌, length, arith, Result, Ok, Err, OnErr, sym, ap, ◌∙◌}
+use Rattle.std.proofs.Common.{◌≡◌, ℕ, Bool, List, ◌++◌, ◌≤◌, length, arith, sym, ap, ◌∙◌}
+use Rattle.shelf_core.specs.Reads.{Tells}
 use Rattle.shelf_core.specs.Told.{Told, IsTold, content, grown, GrewPartly, IsApart}
+use Rattle.shelf_core.specs.declared.shelf.Shelf.{Ghosts}
 use Rattle.shelf_core.proofs.PieceLaws.{grown-if_told, grown-both, GrewPartly-first, GrewPartly-second, content-while_grown, IsTold-while_grown}
 use Rattle.shelf_parts.specs.Parts.{part_of}
 use Rattle.shelf_parts.proofs.PartLaws.{part-whole}
@@ -50,18 +52,13 @@ pub stopped_in_content : (told between after : Told) (to name from head : List �
 stopped_in_content told between after to name from head side uid len measured apart is first part =
     GrewPartly-second told between after to _ head (part_of 0 len (content between from)) first (head_and_part told between to name from head side uid len measured apart is first) part
 
--- what holds anyway holds at an error
-pub on_err : {T E P : Type 0} (r : Result T E) → P → OnErr r P
-on_err (Ok x) holds = tt
-on_err (Err e) holds = holds
-
 -- what stops a later call stops the whole
-pub StopsFor-later : (told between : Told) (plan : Planned) (faults faults_then faults_now : ℕ) (error : PackError) → (IsTold told → IsTold between) → faults ≤ faults_then → StopsFor between plan faults_then faults_now error → StopsFor told plan faults faults_now error
-StopsFor-later told between plan faults faults_then faults_now (Changed name was now) known fell why = record { untold = λ k. why.untold (known k); planned = why.planned; fewer = why.fewer }
-StopsFor-later told between plan faults faults_then faults_now Failed known fell why = omega arith
-StopsFor-later told between plan faults faults_then faults_now NoMemory known fell why = tt
-StopsFor-later told between plan faults faults_then faults_now (Refused name reason) known fell why = why
-StopsFor-later told between plan faults faults_then faults_now (InTheWay name) known fell why = why
-StopsFor-later told between plan faults faults_then faults_now (Missing name) known fell why = why
+pub StopsFor-later : {S : Type 0} (g : Ghosts S) (old between new : S) (plan : Planned) (error : PackError) → (Tells g old → Tells g between) → g.faults old ≤ g.faults between → StopsFor g between new plan error → StopsFor g old new plan error
+StopsFor-later g old between new plan (Changed name was now) known fell why = record { untold = λ k. why.untold (known k); planned = why.planned; fewer = why.fewer }
+StopsFor-later g old between new plan Failed known fell why = omega arith
+StopsFor-later g old between new plan NoMemory known fell why = tt
+StopsFor-later g old between new plan (Refused name reason) known fell why = why
+StopsFor-later g old between new plan (InTheWay name) known fell why = why
+StopsFor-later g old between new plan (Missing name) known fell why = why
 
 pub ruleset attach_laws = (attached_file-is, grown-if_told)

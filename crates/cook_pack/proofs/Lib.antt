@@ -1,4 +1,5 @@
 pub mod PieceLaws
+pub mod GrowLaws
 pub mod AttachLaws
 pub mod OffenceLaws
 pub mod OrderLaws

@@ -1,8 +1,8 @@
 -- Laws of a plan that is made entry by entry, in byte order of names.
-use Rattle.std.proofs.Common.{◌≡◌, ℕ, zero, suc, ◌+◌, ◌^◌, ◌<◌, ◌≤◌, Bool, true, false, cond, nat_le, nat_lt, List, [], ◌∷◌, ◌++◌, length, take, drop, map, get_or, sum, sum_by, IsUtf8, Option, Some, None, refl, sym, ap, ◌∙◌, subst, arith, add-one, drop-cons, length-append, zero-add}
+use Rattle.std.proofs.Common.{◌≡◌, ℕ, zero, suc, ◌+◌, ◌^◌, ◌<◌, ◌≤◌, Bool, true, false, cond, nat_le, nat_lt, List, [], ◌∷◌, ◌++◌, length, take, drop, map, get_or, sum, sum_by, IsUtf8, All, Contains, Option, Some, None, refl, sym, ap, ◌∙◌, subst, arith, add-one, drop-cons, length-append, zero-add}
 use Rattle.std.proofs.Math.Seq.{take-suc, take-length}
 use Rattle.std.proofs.Math.ListN.{drop_of_length-le, get_or-map as get_or-mapped}
-use Rattle.std.proofs.lemmas.List.{length-map, get_or-map, take-map, map_more}
+use Rattle.std.proofs.lemmas.List.{length-map, get_or-map, map-append, take-map, take_more, map_more}
 use Rattle.std.proofs.lemmas.List.Sums.{sum_by-append, sum_by-cons, sum-map}
 use Rattle.std.proofs.lemmas.Bool.Decides.{nat_tests}
 use Rattle.std.specs.Option.{option_or}
@@ -13,43 +13,66 @@ use Rattle.std.specs.Cmp.Lexicographic.{slice_cmp, texts_ties, nat_list_cmp_tota
 use Rattle.cook_bits.specs.Names.{File, is_relative_name, is_same_name, holds_folder_of, full_name}
 use Rattle.shelf_core.specs.Causes.{Rose}
 use Rattle.shelf_core.specs.Listing.{plain_entry, plain_entries}
+use Rattle.shelf_core.specs.Reads.{Tells, OnlyReads}
 use Rattle.shelf_core.specs.Told.{Told, IsTold, no_file, under, length_of}
 use Rattle.shelf_core.specs.declared.shelf.Entry.{Entry}
+use Rattle.shelf_core.specs.declared.shelf.Shelf.{Ghosts}
 use Rattle.cook_pack.specs.declared.error.RefuseWhy.{RefuseWhy}
 use Rattle.cook_pack.specs.declared.error.RefuseWhy.TheVariants.{BadName, UnderFile, TooManyFiles, TooLarge, Unbuilt}
 use Rattle.cook_pack.specs.Film.{is_film}
 use Rattle.cook_pack.specs.declared.error.PackError.{PackError}
 use Rattle.cook_pack.specs.declared.error.PackError.TheVariants.{Refused, InTheWay, Changed, Missing, Failed, NoMemory}
 use Rattle.cook_pack.specs.Offence.{Listed, listed, names_of, first_broken, broken_by_listing, broken_by_file, broken_rules, or_later, offence_from, offence_of_directory, ends_with_name, IsOfPlainFile}
-use Rattle.cook_pack.specs.Planned.{IsBefore, IsSound, Fits, IsNotPlanned}
-use Rattle.cook_pack.specs.Entries.{name_of, entry_names, AreInOrder, entry_at, fault_by_listing, fault_by_file, IsBarred, planned}
+use Rattle.cook_pack.specs.declared.planned_file.PlannedFile.{PlannedFile}
+use Rattle.cook_pack.specs.Planned.{IsBefore, IsSound, Fits, IsNotPlanned, directory_of, lengths_planned, names_planned, planned_file}
+use Rattle.cook_pack.specs.Entries.{Admits, name_of, entry_names, AreInOrder, entry_at, fault_by_listing, fault_by_file, IsBarred, Lists, NamesEntry, planned}
 use Rattle.cook_pack.proofs.OffenceLaws.{first_broken-append, by_listing, by_file, by_file-none, IsAdmitted, admitted, ends_with_name-some}
+use Rattle.std.proofs.lemmas.List.Elements.{Contains-get_or}
+use Rattle.reversal.specs.SideData.{AreNames}
 use Rattle.shelf_core.proofs.UnderLaws.{under-ascending, length_of-under}
 use borrow.Author.Count.{below_more}
 
 -- ---- for any shelf: the entries before a place break no rule
 
-pub record Passed (entries : List Entry) (lengths : List ℕ) (total index : ℕ) : Type 0 where
-  pub counted : length lengths ≡ index
-  pub adds : sum lengths ≡ total
+pub record Passed (entries : List Entry) (files : List PlannedFile) (total index : ℕ) : Type 0 where
+  pub counted : length files ≡ index
+  pub named : names_planned files ≡ take index (entry_names entries)
+  pub adds : sum (lengths_planned files) ≡ total
   pub small : total ≤ 2 ^ 50
   pub passed : (k : ℕ) → k < index → fault_by_listing entries k ≡ None
   pub texts : (k : ℕ) → k < index → IsUtf8 (entry_at entries k).name
 
 pub passed-none : (entries : List Entry) → Passed entries [] 0 0
-passed-none entries = record { counted = refl; adds = refl; small = omega arith; passed = λ k below. absurd (omega arith); texts = λ k below. absurd (omega arith) }
+passed-none entries = record { counted = refl; named = refl; adds = refl; small = omega arith; passed = λ k below. absurd (omega arith); texts = λ k below. absurd (omega arith) }
 
 sum-push : (lengths : List ℕ) (len : ℕ) → sum (lengths ++ len ∷ []) ≡ sum lengths + len
 sum-push lengths len = sum_by-append (λ x. x) lengths (len ∷ []) ∙ ap (λ n. sum lengths + n) (zero-add len)
 
-pub passed-more : (entries : List Entry) (lengths : List ℕ) (total index : ℕ) (name : List ℕ) (len : ℕ) → Passed entries lengths total index
-    → fault_by_listing entries index ≡ None → fault_by_file total name len ≡ None → IsUtf8 (entry_at entries index).name → Passed entries (lengths ++ len ∷ []) (total + len) (index + 1)
-passed-more entries lengths total index name len so_far listing file text = record {
-  counted = omega (arith, so_far.counted, length-append lengths (len ∷ []));
-  adds = omega (arith, so_far.adds, sum-push lengths len);
-  small = by_file-none total name len file;
+planned_name : PlannedFile → List ℕ
+planned_name file = file.name
+
+planned_length : PlannedFile → ℕ
+planned_length file = file.length
+
+named-more : (entries : List Entry) (files : List PlannedFile) (index : ℕ) (file : PlannedFile) → index < length entries → names_planned files ≡ take index (entry_names entries) → file.name ≡ (entry_at entries index).name
+    → names_planned (files ++ file ∷ []) ≡ take (index + 1) (entry_names entries)
+unfolding planned_name
+named-more entries files index file inside so_far named =
+    map-append planned_name files (file ∷ []) ∙ (λ i. so_far i ++ named i ∷ [])
+    ∙ ap (λ n. take index (entry_names entries) ++ n ∷ []) (sym (get_or-map name_of entries index _ [] inside))
+    ∙ sym (take_more (entry_names entries) index [] (omega (arith, length-map entries name_of)))
+
+pub passed-more : (entries : List Entry) (files : List PlannedFile) (total index : ℕ) (file : PlannedFile) → index < length entries → Passed entries files total index
+    → file.name ≡ (entry_at entries index).name → IsUtf8 file.name → fault_by_listing entries index ≡ None → fault_by_file total file.name file.length ≡ None
+    → Passed entries (files ++ file ∷ []) (total + file.length) (index + 1)
+unfolding planned_length
+passed-more entries files total index file inside so_far named text listing filed = record {
+  counted = omega (arith, so_far.counted, length-append files (file ∷ []));
+  named = named-more entries files index file inside so_far.named named;
+  adds = ap sum (map-append planned_length files (file ∷ [])) ∙ sum-push (lengths_planned files) file.length ∙ ap (λ n. n + file.length) so_far.adds;
+  small = by_file-none total file.name file.length filed;
   passed = below_more (λ k. fault_by_listing entries k ≡ None) index so_far.passed listing;
-  texts = below_more (λ k. IsUtf8 (entry_at entries k).name) index so_far.texts text;
+  texts = below_more (λ k. IsUtf8 (entry_at entries k).name) index so_far.texts (subst IsUtf8 named text);
 }
 
 -- ---- a plan of entries that all pass is sound
@@ -80,38 +103,40 @@ ascends entries order pass k inside =
     let apart : is_same_name (get_or names k []) (entry_at entries (k + 1)).name ≡ false = sym last ∙ rw (← add-one) once in
     before-is (entry_at entries k).name (entry_at entries (k + 1)).name (order k (record { name = []; plain = true }) (omega arith) inside) (ap (λ n. is_same_name n (entry_at entries (k + 1)).name) (sym (name_at entries k [] (omega (arith, count_names entries)))) ∙ apart)
 
-pub sound-is : (root : List ℕ) (entries : List Entry) (lengths : List ℕ) (total index : ℕ) → AreInOrder entries → index ≡ length entries → Passed entries lengths total index → IsSound (planned root entries lengths)
-sound-is root entries lengths total index order whole so_far =
+pub sound-is : (root : List ℕ) (entries : List Entry) (files : List PlannedFile) (total index : ℕ) → AreInOrder entries → index ≡ length entries → Passed entries files total index → IsSound (planned root files)
+sound-is root entries files total index order whole so_far =
     let pass : (k : ℕ) → k < length entries → IsAdmitted entries k = λ k inside. admitted entries k inside (so_far.passed k (omega arith)) in
+    let names : entry_names entries ≡ names_planned files = sym (so_far.named ∙ ap (λ n. take n (entry_names entries)) (whole ∙ sym (count_names entries)) ∙ take-length (entry_names entries)) in
     record {
-      few = omega (arith, few_names entries (length entries) refl pass, count_names entries);
-      texts = λ k d inside. subst IsUtf8 (sym (name_at entries k d inside)) (so_far.texts k (omega (arith, count_names entries)));
-      relative = λ k d inside. subst (λ n. is_relative_name n ≡ true) (sym (name_at entries k d inside)) (pass k (omega (arith, count_names entries))).relative;
-      ascending = λ k d inside.
-          subst (λ n. IsBefore n (get_or (entry_names entries) (k + 1) d)) (sym (name_at entries k d (omega arith)))
-          (subst (λ n. IsBefore (entry_at entries k).name n) (sym (name_at entries (k + 1) d inside)) (ascends entries order pass k (omega (arith, count_names entries))));
-      apart = λ k d inside. subst (λ n. holds_folder_of (entry_names entries) n ≡ false) (sym (name_at entries k d inside)) (pass k (omega (arith, count_names entries))).apart;
-      one_each = omega (arith, so_far.counted, count_names entries);
+      few = omega (arith, few_names entries (length entries) refl pass, so_far.counted);
+      texts = subst (λ l. All IsUtf8 l) names (λ k d inside. subst IsUtf8 (sym (name_at entries k d inside)) (so_far.texts k (omega (arith, count_names entries))));
+      named = subst AreNames names (record {
+        relative = λ k d inside. subst (λ n. is_relative_name n ≡ true) (sym (name_at entries k d inside)) (pass k (omega (arith, count_names entries))).relative;
+        ascending = λ k d inside.
+            subst (λ n. IsBefore n (get_or (entry_names entries) (k + 1) d)) (sym (name_at entries k d (omega arith)))
+            (subst (λ n. IsBefore (entry_at entries k).name n) (sym (name_at entries (k + 1) d inside)) (ascends entries order pass k (omega (arith, count_names entries))));
+        apart = λ k d inside. subst (λ n. holds_folder_of (entry_names entries) n ≡ false) (sym (name_at entries k d inside)) (pass k (omega (arith, count_names entries))).apart;
+      });
       small = omega (arith, so_far.adds, so_far.small);
     }
 
 -- ---- where the shelf tells: the search for the offence has come so far
 
-pub record Followed (files : List File) (lengths : List ℕ) (index : ℕ) : Type 0 where
+pub record Followed (files : List File) (planned : List PlannedFile) (index : ℕ) : Type 0 where
   pub offence : offence_from (map listed files) (take index (map listed files)) (drop index (map listed files)) ≡ offence_of_directory files
-  pub lengths_are : lengths ≡ map (λ file. length file.1) (take index files)
+  pub are : planned ≡ map planned_file (take index files)
 
 pub followed-none : (files : List File) → Followed files [] 0
 unfolding offence_of_directory
-followed-none files = record { offence = refl; lengths_are = refl }
+followed-none files = record { offence = refl; are = refl }
+
+lengths-files : (files : List File) → lengths_planned (map planned_file files) ≡ map (λ file. length file.1) files
+lengths-files [] = refl
+lengths-files (file ∷ files) = ap (λ lengths. length file.1 ∷ lengths) (lengths-files files)
 
 names-same : (files : List File) → names_of (map listed files) ≡ entry_names (plain_entries files)
 names-same [] = refl
 names-same (file ∷ files) = ap (λ names. file.0 ∷ names) (names-same files)
-
-names-files : (files : List File) → entry_names (plain_entries files) ≡ map (λ file. file.0) files
-names-files [] = refl
-names-files (file ∷ files) = ap (λ names. file.0 ∷ names) (names-files files)
 
 total-by : (files : List File) → sum_by (λ e. length e.bytes) (map listed files) ≡ sum_by (λ (file : File). length file.1) files
 total-by [] = refl
@@ -156,27 +181,28 @@ offence_at files index inside =
     ∙ ap (λ b. or_later (fault_at files index) (get_or files index no_file).0 (offence_from all b (drop (suc index) all))) next)
 
 -- the faults of the entry at a place, in the terms of the code
-fault_at-is : (files : List File) (entries : List Entry) (lengths : List ℕ) (total index len : ℕ) → entries ≡ plain_entries files → len ≡ length (get_or files index no_file).1 → sum lengths ≡ total → lengths ≡ map (λ file. length file.1) (take index files)
+fault_at-is : (files : List File) (entries : List Entry) (planned : List PlannedFile) (total index len : ℕ) → entries ≡ plain_entries files → len ≡ length (get_or files index no_file).1 → sum (lengths_planned planned) ≡ total → planned ≡ map planned_file (take index files)
     → option_or (fault_by_listing entries index) (fault_by_file total (entry_at entries index).name len) ≡ fault_at files index
 unfolding fault_at
-fault_at-is files entries lengths total index len are is adds so_far =
-    let sums : total ≡ sum (map (λ (file : File). length file.1) (take index files)) = sym adds ∙ ap sum so_far in
+fault_at-is files entries planned total index len are is adds so_far =
+    let sums : total ≡ sum (map (λ (file : File). length file.1) (take index files)) = sym adds ∙ ap (λ l. sum (lengths_planned l)) so_far ∙ ap sum (lengths-files (take index files)) in
     rw (are, is, sums) (ap (λ (e : Entry). option_or (fault_by_listing (plain_entries files) index) (fault_by_file (sum (map (λ (file : File). length file.1) (take index files))) e.name (length (get_or files index no_file).1))) (entry_at-file files index))
 
-pub followed-more : (files : List File) (entries : List Entry) (lengths : List ℕ) (total index len : ℕ) → entries ≡ plain_entries files → index < length files → len ≡ length (get_or files index no_file).1 → sum lengths ≡ total
-    → fault_by_listing entries index ≡ None → fault_by_file total (entry_at entries index).name len ≡ None → Followed files lengths index → Followed files (lengths ++ len ∷ []) (index + 1)
-followed-more files entries lengths total index len are inside is adds listing file so_far =
-    let none : fault_at files index ≡ None = sym (fault_at-is files entries lengths total index len are is adds so_far.lengths_are) ∙ rw (listing, file) refl in
+pub followed-more : (files : List File) (entries : List Entry) (planned : List PlannedFile) (total index : ℕ) (file : PlannedFile) → entries ≡ plain_entries files → index < length files → file ≡ planned_file (get_or files index no_file)
+    → sum (lengths_planned planned) ≡ total → fault_by_listing entries index ≡ None → fault_by_file total (entry_at entries index).name file.length ≡ None → Followed files planned index → Followed files (planned ++ file ∷ []) (index + 1)
+unfolding planned_length
+followed-more files entries planned total index file are inside is adds listing filed so_far =
+    let none : fault_at files index ≡ None = sym (fault_at-is files entries planned total index file.length are (ap planned_length is) adds so_far.are) ∙ rw (listing, filed) refl in
     record {
       offence = sym (offence_at files index inside ∙ ap (λ o. or_later o (get_or files index no_file).0 (offence_from (map listed files) (take (index + 1) (map listed files)) (drop (index + 1) (map listed files)))) none) ∙ so_far.offence;
-      lengths_are = rw (so_far.lengths_are, is) (sym (map_more (λ (file : File). length file.1) files index no_file inside));
+      are = (λ i. so_far.are i ++ is i ∷ []) ∙ sym (map_more planned_file files index no_file inside);
     }
 
-followed-refused : (files : List File) (entries : List Entry) (lengths : List ℕ) (total index : ℕ) (why : RefuseWhy) → entries ≡ plain_entries files → index < length files → sum lengths ≡ total
+followed-refused : (files : List File) (entries : List Entry) (planned : List PlannedFile) (total index : ℕ) (why : RefuseWhy) → entries ≡ plain_entries files → index < length files → sum (lengths_planned planned) ≡ total
     → option_or (fault_by_listing entries index) (fault_by_file total (entry_at entries index).name (length (get_or files index no_file).1)) ≡ Some why
-    → Followed files lengths index → offence_of_directory files ≡ Some ((get_or files index no_file).0, why)
-followed-refused files entries lengths total index why are inside adds broken so_far =
-    let some : fault_at files index ≡ Some why = sym (fault_at-is files entries lengths total index _ are refl adds so_far.lengths_are) ∙ broken in
+    → Followed files planned index → offence_of_directory files ≡ Some ((get_or files index no_file).0, why)
+followed-refused files entries planned total index why are inside adds broken so_far =
+    let some : fault_at files index ≡ Some why = sym (fault_at-is files entries planned total index _ are refl adds so_far.are) ∙ broken in
     sym so_far.offence ∙ offence_at files index inside ∙ ap (λ o. or_later o (get_or files index no_file).0 (offence_from (map listed files) (take (index + 1) (map listed files)) (drop (index + 1) (map listed files)))) some
 
 -- ---- the answers
@@ -225,56 +251,72 @@ told-of_plain told root index total name len why inside broken =
     of_plain (is_relative_name (entry_at (plain_entries files) index).name) (holds_folder_of (entry_names (plain_entries files)) (entry_at (plain_entries files) index).name) (nat_le 1000000 index) (nat_lt (2 ^ 50) (total + len)) (is_film name) why
     (rw (← listing, ← file) broken)
 
-pub stopped-is : (told between : Told) (root : List ℕ) (entries : List Entry) (lengths : List ℕ) (total index first faults now : ℕ) (error : PackError) → between ≡ told → (IsTold told → entries ≡ plain_entries (under told root)) → index < length entries → sum lengths ≡ total
-    → (IsTold told → Followed (under told root) lengths index) → first ≤ faults → IsBarred between root entries index total faults now error → IsNotPlanned told root first now error
-stopped-is told between root entries lengths total index first faults now (Refused name why) same are inside adds so_far earlier barred = λ known.
-    let files = under told root in
-    let within : index < length files = omega (arith, ap length (are known), count_files files) in
-    let here : (entry_at entries index).name ≡ (get_or files index no_file).0 = ap (λ es. (entry_at es index).name) (are known) ∙ ap name_of (entry_at-file files index) in
-    let measured : length_of between (full_name root name) ≡ Some (length (get_or files index no_file).1) = rw (same, barred.0, here) (length_of-under told root index within) in
-    let broken = barred.1 (subst IsTold (sym same) known) _ measured in (
-      followed-refused files entries lengths total index why (are known) within adds (ap (λ n. option_or (fault_by_listing entries index) (fault_by_file total n (length (get_or files index no_file).1))) (sym barred.0) ∙ broken) (so_far known)
-          ∙ ap (λ n. Some (n, why)) (sym here ∙ sym barred.0),
-      told-of_plain told root index total name (length (get_or files index no_file).1) why within (ap (λ es. option_or (fault_by_listing es index) (fault_by_file total name (length (get_or files index no_file).1))) (sym (are known)) ∙ broken),
-    )
-stopped-is told between root entries lengths total index first faults now (Missing name) same are inside adds so_far earlier barred = λ known.
-    let files = under told root in
-    let within : index < length files = omega (arith, ap length (are known), count_files files) in
-    let here : (entry_at entries index).name ≡ (get_or files index no_file).0 = ap (λ es. (entry_at es index).name) (are known) ∙ ap name_of (entry_at-file files index) in
-    let measured : length_of between (full_name root (entry_at entries index).name) ≡ Some (length (get_or files index no_file).1) = rw (same, here) (length_of-under told root index within) in
-    let missing = barred (subst IsTold (sym same) known) in
-    cc
-stopped-is told between root entries lengths total index first faults now Failed same are inside adds so_far earlier barred = rose-earlier first faults now earlier barred
-stopped-is told between root entries lengths total index first faults now NoMemory same are inside adds so_far earlier barred = tt
-stopped-is told between root entries lengths total index first faults now (InTheWay name) same are inside adds so_far earlier barred = barred
-stopped-is told between root entries lengths total index first faults now (Changed name was len) same are inside adds so_far earlier barred = barred
+pub stopped-is : {S : Type 0} (g : Ghosts S) (old between new : S) (root : List ℕ) (entries : List Entry) (files : List PlannedFile) (total index : ℕ) (error : PackError) → OnlyReads g old between → Lists g old root entries → index < length entries
+    → sum (lengths_planned files) ≡ total → (Tells g old → Followed (directory_of g old root) files index) → IsBarred g between new root entries index total error → IsNotPlanned g old new root error
+stopped-is g old between new root entries files total index (Refused name why) only are inside adds so_far barred = λ known.
+    let told = g.files old in
+    let listed = under told root in
+    let within : index < length listed = omega (arith, ap length (are known), count_files listed) in
+    let here : (entry_at entries index).name ≡ (get_or listed index no_file).0 = ap (λ es. (entry_at es index).name) (are known) ∙ ap name_of (entry_at-file listed index) in
+    let measured : length_of (g.files between) (full_name root name) ≡ Some (length (get_or listed index no_file).1) = rw (only.files, barred.named, here) (length_of-under told root index within) in
+    let broken = barred.broken (subst IsTold (sym only.files) known) _ measured in
+    record {
+      first = followed-refused listed entries files total index why (are known) within adds (ap (λ n. option_or (fault_by_listing entries index) (fault_by_file total n (length (get_or listed index no_file).1))) (sym barred.named) ∙ broken) (so_far known)
+          ∙ ap (λ n. Some (n, why)) (sym here ∙ sym barred.named);
+      plain = told-of_plain told root index total name (length (get_or listed index no_file).1) why within (ap (λ es. option_or (fault_by_listing es index) (fault_by_file total name (length (get_or listed index no_file).1))) (sym (are known)) ∙ broken);
+    }
+stopped-is g old between new root entries files total index (Missing name) only are inside adds so_far barred = record {
+  untold = λ known.
+      let told = g.files old in
+      let listed = under told root in
+      let within : index < length listed = omega (arith, ap length (are known), count_files listed) in
+      let here : (entry_at entries index).name ≡ (get_or listed index no_file).0 = ap (λ es. (entry_at es index).name) (are known) ∙ ap name_of (entry_at-file listed index) in
+      let measured : length_of (g.files between) (full_name root name) ≡ Some (length (get_or listed index no_file).1) = rw (only.files, barred.named, here) (length_of-under told root index within) in
+      let missing = barred.none (subst IsTold (sym only.files) known) in
+      absurd (cc);
+  relative = subst (λ n. is_relative_name n ≡ true) (sym barred.named) (admitted entries index inside barred.listed).relative;
+}
+stopped-is g old between new root entries files total index Failed only are inside adds so_far barred = rose-earlier (g.faults old) (g.faults between) (g.faults new) only.faults barred
+stopped-is g old between new root entries files total index NoMemory only are inside adds so_far barred = tt
+stopped-is g old between new root entries files total index (InTheWay name) only are inside adds so_far barred = barred
+stopped-is g old between new root entries files total index (Changed name was len) only are inside adds so_far barred = barred
+
+-- a file that isn't there has the name of an entry
+pub names_entry : {S : Type 0} (g : Ghosts S) (between new : S) (root : List ℕ) (entries : List Entry) (total index : ℕ) (error : PackError) → index < length entries → IsBarred g between new root entries index total error → NamesEntry entries error
+names_entry g between new root entries total index (Missing name) inside barred =
+    subst (Contains (entry_names entries)) (name_at entries index [] (omega (arith, count_names entries)) ∙ sym barred.named) (Contains-get_or (entry_names entries) index [] (omega (arith, count_names entries)))
+names_entry g between new root entries total index (Refused name why) inside barred = tt
+names_entry g between new root entries total index Failed inside barred = tt
+names_entry g between new root entries total index NoMemory inside barred = tt
+names_entry g between new root entries total index (InTheWay name) inside barred = tt
+names_entry g between new root entries total index (Changed name was len) inside barred = tt
 
 -- one more entry passed, on a shelf that tells
-pub followed-next : (told between : Told) (root : List ℕ) (entries : List Entry) (lengths : List ℕ) (total index len : ℕ) → between ≡ told → (IsTold told → entries ≡ plain_entries (under told root)) → index < length entries → sum lengths ≡ total
-    → (IsTold between → length_of between (full_name root (entry_at entries index).name) ≡ Some len) → fault_by_listing entries index ≡ None → fault_by_file total (entry_at entries index).name len ≡ None
-    → (IsTold told → Followed (under told root) lengths index) → IsTold told → Followed (under told root) (lengths ++ len ∷ []) (index + 1)
-followed-next told between root entries lengths total index len same are inside adds measured listing file so_far known =
-    let files = under told root in
-    let within : index < length files = omega (arith, ap length (are known), count_files files) in
-    let here : (entry_at entries index).name ≡ (get_or files index no_file).0 = ap (λ es. (entry_at es index).name) (are known) ∙ ap name_of (entry_at-file files index) in
-    let whole : length_of between (full_name root (entry_at entries index).name) ≡ Some (length (get_or files index no_file).1) = rw (same, here) (length_of-under told root index within) in
-    let is : len ≡ length (get_or files index no_file).1 = some_same _ _ (sym (measured (subst IsTold (sym same) known)) ∙ whole) in
-    followed-more files entries lengths total index len (are known) within is adds listing file (so_far known)
+pub followed-next : {S : Type 0} (g : Ghosts S) (old between : S) (root : List ℕ) (entries : List Entry) (files : List PlannedFile) (total index : ℕ) (file : PlannedFile) → OnlyReads g old between → Lists g old root entries → index < length entries
+    → sum (lengths_planned files) ≡ total → Admits g between root entries index total file → (Tells g old → Followed (directory_of g old root) files index) → Tells g old → Followed (directory_of g old root) (files ++ file ∷ []) (index + 1)
+followed-next g old between root entries files total index file only are inside adds admits so_far known =
+    let told = g.files old in
+    let listed = under told root in
+    let within : index < length listed = omega (arith, ap length (are known), count_files listed) in
+    let here : file.name ≡ (get_or listed index no_file).0 = admits.named ∙ ap (λ es. (entry_at es index).name) (are known) ∙ ap name_of (entry_at-file listed index) in
+    let whole : length_of (g.files between) (full_name root file.name) ≡ Some (length (get_or listed index no_file).1) = rw (only.files, here) (length_of-under told root index within) in
+    let long : file.length ≡ length (get_or listed index no_file).1 = some_same _ _ (sym (admits.measured (subst IsTold (sym only.files) known)) ∙ whole) in
+    let filed : fault_by_file total (entry_at entries index).name file.length ≡ None = ap (λ n. fault_by_file total n file.length) (sym admits.named) ∙ admits.filed in
+    followed-more listed entries files total index file (are known) within (λ i. record { name = here i; length = long i; kind = admits.kept i }) adds admits.listed filed (so_far known)
   where
     some_same : (x y : ℕ) → Some x ≡ Some y → x ≡ y
     some_same x y e = cc
 
-pub fits-is : (told : Told) (root : List ℕ) (entries : List Entry) (lengths : List ℕ) (index : ℕ) → entries ≡ plain_entries (under told root) → index ≡ length entries → Followed (under told root) lengths index → Fits told (planned root entries lengths)
+pub fits-is : (told : Told) (root : List ℕ) (entries : List Entry) (files : List PlannedFile) (index : ℕ) → entries ≡ plain_entries (under told root) → index ≡ length entries → Followed (under told root) files index → Fits told (planned root files)
 unfolding offence_from
-fits-is told root entries lengths index are whole so_far =
-    let files = under told root in
-    let count : index ≡ length files = omega (arith, ap length are, count_files files) in
-    let all = map listed files in
-    let none : drop index all ≡ [] = drop_of_length-le all {i = index} (omega (arith, length-map files listed)) in
+fits-is told root entries files index are whole so_far =
+    let listed_files = under told root in
+    let count : index ≡ length listed_files = omega (arith, ap length are, count_files listed_files) in
+    let all = map listed listed_files in
+    let none : drop index all ≡ [] = drop_of_length-le all {i = index} (omega (arith, length-map listed_files listed)) in
     record {
       in_profile = sym so_far.offence ∙ ap (offence_from all (take index all)) none;
-      names = ap entry_names are ∙ names-files files;
-      lengths = so_far.lengths_are ∙ ap (λ n. map (λ (file : File). length file.1) (take n files)) count ∙ ap (map (λ (file : File). length file.1)) (take-length files);
+      files = so_far.are ∙ ap (λ n. map planned_file (take n listed_files)) count ∙ ap (map planned_file) (take-length listed_files);
     }
 
 -- a told listing stands in order

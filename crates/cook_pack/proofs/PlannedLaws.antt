@@ -1,30 +1,25 @@
 -- Laws of planned files that are attached one after another.
-use Rattle.std.proofs.Common.{◌≡◌, ℕ, suc, ◌+◌, ◌<◌, ◌≤◌, ◌^◌, Bool, true, false, ◌&&◌, List, [], ◌∷◌, ◌++◌, length, take, drop, map, All, IsTrue, slice_index, get_or, sum, refl, sym, ap, ◌∙◌, subst, arith, append_assoc, append-nil, length-append, add-zero}
-use Rattle.std.proofs.Math.Seq.{take-append_seam, take-length}
-use Rattle.std.proofs.lemmas.List.{take_more, map-append, take-append-drop, length-take-le, length-map, get_or-map}
-use Rattle.std.proofs.lemmas.List.Sums.{get_or-le-sum_by}
+use Rattle.std.proofs.Common.{◌≡◌, ℕ, suc, ◌+◌, ◌<◌, ◌≤◌, Bool, true, false, ◌&&◌, List, [], ◌∷◌, ◌++◌, length, take, drop, map, filter, All, Contains, IsTrue, get_or, refl, sym, ap, ◌∙◌, subst, arith, append_assoc, append-nil, add-zero}
+use Rattle.std.proofs.Math.Seq.{take-length}
+use Rattle.std.proofs.lemmas.List.{take_more, map-append, take-append-drop, length-take-le, length-map, get_or-map, get_or_default}
 use Rattle.std.proofs.lemmas.Bool.{leb-true}
-use Rattle.std.proofs.lemmas.List.Elements.{All-push}
+use Rattle.std.proofs.lemmas.List.Elements.{All-push, Contains-get_or}
 use Rattle.md5.specs.Md5.{md5}
 use Rattle.cook_bits.specs.Names.{File, full_name, is_relative_name, IsRelativeName}
-use Rattle.shelf_core.specs.Told.{Told, IsTold, HasFile, IsApart, GrewPartly, content, grown, no_file}
+use Rattle.shelf_core.specs.Reads.{Has}
+use Rattle.shelf_core.specs.Told.{Told, IsTold, HasFile, IsApart, content, grown, no_file}
+use Rattle.shelf_core.specs.Writes.{Grew, GrewInPart}
+use Rattle.shelf_core.specs.declared.shelf.Shelf.{Ghosts}
 use Rattle.shelf_core.proofs.FileLaws.{grown-nothing, HasFile-with_file, IsApart-with_file, IsTold-with_file}
-use Rattle.shelf_core.proofs.PieceLaws.{content-while_grown, IsTold-while_grown, grown-both, GrewPartly-first, GrewPartly-second}
+use Rattle.shelf_core.proofs.PieceLaws.{content-while_grown, IsTold-while_grown}
 use Rattle.reversal.specs.declared.record.FileRecord.{FileRecord}
 use Rattle.reversal.specs.SideData.{HasShape}
+use Rattle.cook_pack.specs.declared.planned_file.PlannedFile.{PlannedFile}
+use Rattle.cook_pack.specs.Attaching.{AreAttachable, AreTheRecords, CanAttach, CanAttachFile, IsAttachable, IsTheRecord, file_of, file_on, files_on, planned_files}
 use Rattle.cook_pack.specs.Pieces.{attached_file}
-use Rattle.cook_pack.specs.Planned.{Planned, IsSound}
-use Rattle.cook_pack.specs.Package.{AreRecordsOf, CanAttach, IsRecordOf, attached_from, attachment_at, planned_files, record_of}
-
--- what holds of the planned file at a place, whose name and full name are given
-pub record IsAt (told : Told) (plan : Planned) (to : List ℕ) (k : ℕ) (name from : List ℕ) : Type 0 where
-  pub there : HasFile told from
-  pub apart : IsApart told from to
-  pub short : length name ≤ 1024
-  pub small : slice_index plan.lengths k ≤ 2 ^ 50
-  pub measured : IsTold told → slice_index plan.lengths k ≡ length (content told from)
-  pub file : get_or (planned_files told plan) k no_file ≡ (name, content told from)
-  pub attachment : attached_file name false (k + 1) (content told from) ≡ attachment_at (planned_files told plan) k
+use Rattle.cook_pack.specs.Planned.{Planned, IsInPlan, no_planned_file}
+use Rattle.cook_pack.specs.Package.{attached_from, attachment, others_of, other_record}
+use Rattle.cook_pack.proofs.GrowLaws.{GrewInPart-between, GrewInPart-first, GrewInPart-second, Grew-both}
 
 pub short_name : (name : List ℕ) → IsRelativeName name → length name ≤ 1024
 unfolding is_relative_name
@@ -34,98 +29,120 @@ short_name name relative = leb-true (length name) 1024 (and-first _ _ relative)
     and-first true b h = refl
     and-first false b h = h
 
-pub small_at : (plan : Planned) (k : ℕ) → IsSound plan → k < length plan.names → slice_index plan.lengths k ≤ 2 ^ 50
-small_at plan k sound inside = omega (arith, sound.small, sound.one_each, get_or-le-sum_by (λ (n : ℕ). n) plan.lengths k 0 (omega (arith, sound.one_each)))
+pub length-planned_files : (told : Told) (plan : Planned) → length (planned_files told plan) ≡ length plan.files
+unfolding planned_files
+length-planned_files told plan = length-map plan.files (file_of told plan.root)
 
-pub planned_name : Told → List ℕ → List ℕ → File
-planned_name told root name = (name, content told (full_name root name))
+pub planned_at : (told : Told) (plan : Planned) (k : ℕ) → k < length plan.files → get_or (planned_files told plan) k no_file ≡ file_of told plan.root (get_or plan.files k no_planned_file)
+unfolding planned_files
+planned_at told plan k inside = get_or-map (file_of told plan.root) plan.files k no_planned_file no_file inside
 
-pub planned_at : (told : Told) (plan : Planned) (k : ℕ) (name from : List ℕ) → k < length plan.names → name ≡ get_or plan.names k [] → from ≡ full_name plan.root name
-    → get_or (planned_files told plan) k no_file ≡ (name, content told from)
-unfolding planned_files planned_name
-planned_at told plan k name from inside is full =
-    get_or-map (planned_name told plan.root) plan.names k [] no_file inside ∙ ap (planned_name told plan.root) (sym is) ∙ ap (λ n. (name, content told n)) (sym full)
-
-pub length-planned_files : (told : Told) (plan : Planned) → length (planned_files told plan) ≡ length plan.names
-unfolding planned_files planned_name
-length-planned_files told plan = length-map plan.names (planned_name told plan.root)
-
-pub measured_at : (told : Told) (plan : Planned) (k : ℕ) (name from : List ℕ) → plan.lengths ≡ map (λ file. length file.1) (planned_files told plan) → k < length plan.names
-    → get_or (planned_files told plan) k no_file ≡ (name, content told from) → slice_index plan.lengths k ≡ length (content told from)
-measured_at told plan k name from measured inside at =
-    ap (λ l. get_or l k 0) measured ∙ get_or-map content_length (planned_files told plan) k no_file 0 (omega (arith, length-planned_files told plan)) ∙ ap content_length at
+-- at this stage each file is attached as it is
+pub others-all : (files : List File) → others_of files ≡ files
+others-all files = each files
   where
-    content_length : File → ℕ
-    content_length file = length file.1
+    each : (rest : List File) → filter (λ file. true) rest ≡ rest
+    each [] = refl
+    each (file ∷ rest) = ap (λ others. file ∷ others) (each rest)
 
-attachment-is : (told : Told) (plan : Planned) (k : ℕ) (name from : List ℕ) → get_or (planned_files told plan) k no_file ≡ (name, content told from)
-    → attached_file name false (k + 1) (content told from) ≡ attachment_at (planned_files told plan) k
-unfolding attachment_at
-attachment-is told plan k name from at = ap attached (sym at)
-  where
-    attached : File → List ℕ
-    attached file = attached_file file.0 false (k + 1) file.1
+-- ---- the shelf while the package grows
 
-pub is_at : (told : Told) (plan : Planned) (to : List ℕ) (k : ℕ) (name from : List ℕ) → CanAttach told plan to → k < length plan.names → name ≡ get_or plan.names k [] → from ≡ full_name plan.root name → IsAt told plan to k name from
-is_at told plan to k name from ready inside is full =
-    let path : from ≡ full_name plan.root (get_or plan.names k []) = full ∙ ap (full_name plan.root) is in
-    let at = planned_at told plan k name from inside is full in
+same_contents : (told between : Told) (root to added : List ℕ) (files : List PlannedFile) → between ≡ grown told to added → All (λ (file : PlannedFile). IsApart told (full_name root file.name) to) files
+    → map (file_of between root) files ≡ map (file_of told root) files
+same_contents told between root to added [] is apart = refl
+same_contents told between root to added (file ∷ files) is apart =
+    let here = content-while_grown told between to (full_name root file.name) added is (apart 0 file (omega arith)) in
+    let rest = same_contents told between root to added files is (λ k d h. apart (suc k) d (omega arith)) in
+    λ i. (file.name, here i) ∷ rest i
+
+-- the planned files stay
+pub planned_files-while_grown : (told between : Told) (plan : Planned) (to added : List ℕ) → between ≡ grown told to added → AreAttachable told plan to → planned_files between plan ≡ planned_files told plan
+unfolding planned_files
+planned_files-while_grown told between plan to added is ready = same_contents told between plan.root to added plan.files is (λ k d h. (ready.each k d h).apart)
+
+pub files_on-while_grown : {S : Type 0} (g : Ghosts S) (old new : S) (plan : Planned) (to added : List ℕ) → Grew g old new to added → CanAttach g old plan to → files_on g new plan ≡ files_on g old plan
+files_on-while_grown g old new plan to added grew ready = planned_files-while_grown _ _ plan to added grew.files ready
+
+still_attachable : (told between : Told) (root to added : List ℕ) (file : PlannedFile) → between ≡ grown told to added → IsAttachable told root to file → IsAttachable between root to file
+still_attachable told between root to added file is ready = record {
+  short = ready.short;
+  small = ready.small;
+  there = subst (λ t. HasFile t (full_name root file.name)) (sym is) (HasFile-with_file told to _ _ ready.there);
+  apart = subst (λ t. IsApart t (full_name root file.name) to) (sym is) (IsApart-with_file told to _ _ _ ready.apart);
+  measured = λ known. ready.measured (IsTold-with_file told to _ (subst IsTold is known)) ∙ ap length (sym (content-while_grown told between to (full_name root file.name) added is ready.apart));
+}
+
+-- they can still be attached
+pub CanAttach-while_grown : {S : Type 0} (g : Ghosts S) (old new : S) (plan : Planned) (to added : List ℕ) → Grew g old new to added → CanAttach g old plan to → CanAttach g new plan to
+CanAttach-while_grown g old new plan to added grew ready = record {
+  sound = ready.sound;
+  each = λ k d h. still_attachable _ _ plan.root to added (get_or plan.files k d) grew.files (ready.each k d h);
+}
+
+-- the planned file at a place is the next to be attached, with that FileUID
+pub record IsNext {S : Type 0} (g : Ghosts S) (old new : S) (plan : Planned) (to root : List ℕ) (uid k : ℕ) (file : PlannedFile) : Type 0 where
+  pub ready : CanAttachFile g new root to file
+  pub planned : IsInPlan plan file.name file.length
+  pub inside : k < length (files_on g old plan)
+  pub is : file_on g new root file ≡ get_or (files_on g old plan) k no_file
+  pub bytes : attachment uid (file_on g new root file) ≡ attachment (k + 1) (get_or (files_on g old plan) k no_file)
+
+pub is_next : {S : Type 0} (g : Ghosts S) (old new : S) (plan : Planned) (to added root : List ℕ) (uid k : ℕ) (files : List PlannedFile) (file : PlannedFile) → Grew g old new to added → CanAttach g old plan to
+    → root ≡ plan.root → files ≡ plan.files → uid ≡ k + 1 → k < length files → file ≡ get_or files k file → IsNext g old new plan to root uid k file
+is_next g old new plan to added root uid k files file grew ready at_root listed numbered below read =
+    let inside : k < length plan.files = omega (arith, ap length listed, below) in
+    let here : file ≡ get_or plan.files k file = read ∙ ap (λ l. get_or l k file) listed in
+    let is : file_on g new plan.root file ≡ get_or (files_on g old plan) k no_file =
+    ap (file_of (g.files new) plan.root) (here ∙ get_or_default plan.files k file no_planned_file inside) ∙ sym (planned_at (g.files new) plan k inside)
+    ∙ ap (λ l. get_or l k no_file) (files_on-while_grown g old new plan to added grew ready) in
+    let still = (CanAttach-while_grown g old new plan to added grew ready).each k file inside in
     record {
-      there = subst (HasFile told) (sym path) (ready.there k [] inside);
-      apart = subst (λ n. IsApart told n to) (sym path) (ready.apart k [] inside);
-      short = short_name name (subst IsRelativeName (sym is) (ready.sound.relative k [] inside));
-      small = small_at plan k ready.sound inside;
-      measured = λ known. measured_at told plan k name from (ready.measured known) inside at;
-      file = at;
-      attachment = attachment-is told plan k name from at;
+      ready = subst (λ r. IsAttachable (g.files new) r to file) (sym at_root) (subst (IsAttachable (g.files new) plan.root to) (sym here) still);
+      planned = record { file = file; listed = subst (Contains plan.files) (sym here) (Contains-get_or plan.files k file inside); named = refl; long = refl };
+      inside = omega (arith, length-planned_files (g.files old) plan, inside);
+      is = ap (λ r. file_of (g.files new) r file) at_root ∙ is;
+      bytes = (λ i. attachment (numbered i) (file_of (g.files new) (at_root i) file)) ∙ ap (attachment (k + 1)) is;
     }
 
--- the record of the file at a place
-pub is_record_of : (told : Told) (plan : Planned) (to : List ℕ) (k : ℕ) (name from : List ℕ) (made : FileRecord) → IsAt told plan to k name from
-    → made.name ≡ name → HasShape made → made.length ≡ slice_index plan.lengths k → (IsTold told → made.md5 ≡ md5 (content told from)) → IsRecordOf told (get_or (planned_files told plan) k no_file) made
-is_record_of told plan to k name from made at named shaped long sum = record {
-  named = named ∙ ap (λ (f : File). f.0) (sym at.file);
+-- ---- their records
+
+-- the record of a file
+pub is_record : (told : Told) (root to : List ℕ) (file : PlannedFile) (made : FileRecord) → IsAttachable told root to file → made.name ≡ file.name → HasShape made → made.length ≡ file.length
+    → (IsTold told → made.md5 ≡ md5 (content told (full_name root file.name))) → IsTheRecord told (file_of told root file) made
+is_record told root to file made ready named shaped long sum = record {
+  named = named;
   shaped = shaped;
   whole = λ known i. record {
-    name = (named ∙ ap (λ (f : File). f.0) (sym at.file)) i;
+    name = named i;
     kind = shaped.other i;
-    length = (long ∙ at.measured known ∙ ap (λ (f : File). length f.1) (sym at.file)) i;
-    md5 = (sum known ∙ ap (λ (f : File). md5 f.1) (sym at.file)) i;
+    length = (long ∙ ready.measured known) i;
+    md5 = sum known i;
     head = shaped.no_head i;
     pads = shaped.no_pads i;
     tail = shaped.no_tail i;
   };
 }
 
+pub records-none : (told : Told) (files : List File) → AreTheRecords told (take 0 files) []
+records-none told files = record { named = refl; shaped = λ k d h. absurd (omega arith); whole = λ known. refl }
+
+pub records-more : (told between : Told) (to added : List ℕ) (files : List File) (file : File) (records : List FileRecord) (made : FileRecord) (k : ℕ) → between ≡ grown told to added → file ≡ get_or files k no_file → k < length files
+    → AreTheRecords told (take k files) records → IsTheRecord between file made → AreTheRecords told (take (k + 1) files) (records ++ made ∷ [])
+records-more told between to added files file records made k is at inside so_far one =
+    let next = take_more files k no_file inside in
+    record {
+      named = map-append name_of records (made ∷ []) ∙ (λ i. so_far.named i ++ (one.named ∙ ap first at) i ∷ []) ∙ sym (map-append first (take k files) (get_or files k no_file ∷ [])) ∙ ap (map first) (sym next);
+      shaped = All-push HasShape records made so_far.shaped one.shaped;
+      whole = λ known. (λ i. so_far.whole known i ++ (one.whole (IsTold-while_grown told between to added is known) ∙ ap other_record at) i ∷ []) ∙ sym (map-append other_record (take k files) (get_or files k no_file ∷ [])) ∙ ap (map other_record) (sym next);
+    }
+  where
+    name_of : FileRecord → List ℕ
+    name_of r = r.name
+
+    first : File → List ℕ
+    first file = file.0
+
 -- ---- one after another
-
-same_contents : (told between : Told) (root to added : List ℕ) (names : List (List ℕ)) → between ≡ grown told to added → All (λ name. IsApart told (full_name root name) to) names
-    → map (planned_name between root) names ≡ map (planned_name told root) names
-unfolding planned_name
-same_contents told between root to added [] is apart = refl
-same_contents told between root to added (name ∷ names) is apart =
-    let here = content-while_grown told between to (full_name root name) added is (apart 0 name (omega arith)) in
-    let rest = same_contents told between root to added names is (λ k d h. apart (suc k) d (omega arith)) in
-    λ i. (name, here i) ∷ rest i
-
--- the planned files stay while the package grows
-pub planned_files-while_grown : (told between : Told) (plan : Planned) (to added : List ℕ) → between ≡ grown told to added → CanAttach told plan to → planned_files between plan ≡ planned_files told plan
-unfolding planned_files planned_name
-planned_files-while_grown told between plan to added is ready = same_contents told between plan.root to added plan.names is ready.apart
-
-IsTold-back : (told between : Told) (to added : List ℕ) → between ≡ grown told to added → IsTold between → IsTold told
-IsTold-back told between to added is known = IsTold-with_file told to _ (subst IsTold is known)
-
-pub CanAttach-while_grown : (told between : Told) (plan : Planned) (to added : List ℕ) → between ≡ grown told to added → CanAttach told plan to → CanAttach between plan to
-CanAttach-while_grown told between plan to added is ready = record {
-  sound = ready.sound;
-  there = λ k d h. subst (λ t. HasFile t (full_name plan.root (get_or plan.names k d))) (sym is) (HasFile-with_file told to _ _ (ready.there k d h));
-  apart = λ k d h. subst (λ t. IsApart t (full_name plan.root (get_or plan.names k d)) to) (sym is) (IsApart-with_file told to _ _ _ (ready.apart k d h));
-  measured = λ known. ready.measured (IsTold-back told between to added is known) ∙ ap (map (λ (file : File). length file.1)) (sym (planned_files-while_grown told between plan to added is ready));
-}
-
-pub HasFile-while_grown : (told between : Told) (to added other : List ℕ) → between ≡ grown told to added → HasFile told other → HasFile between other
-HasFile-while_grown told between to added other is there = subst (λ t. HasFile t other) (sym is) (HasFile-with_file told to _ other there)
 
 shifted : (uid n : ℕ) → (uid + 1) + n ≡ uid + suc n
 shifted uid n = omega arith
@@ -145,66 +162,45 @@ attached_from-append uid (first ∷ files) others =
     ap (λ rest. attached_file first.0 false uid first.1 ++ rest) (attached_from-append (uid + 1) files others ∙ ap (λ n. attached_from (uid + 1) files ++ attached_from n others) (shifted uid (length files)))
     ∙ sym (append_assoc (attached_file first.0 false uid first.1) (attached_from (uid + 1) files) (attached_from (uid + suc (length files)) others))
 
--- none so far
-pub attached-none : (told : Told) (to : List ℕ) → HasFile told to → told ≡ grown told to (attached_from 1 [])
-unfolding attached_from
-attached-none told to there = sym (grown-nothing told to there)
-
--- all of them
-pub attached-all : (told between : Told) (to : List ℕ) (files : List File) (k : ℕ) → between ≡ grown told to (attached_from 1 (take k files)) → k ≡ length files → between ≡ grown told to (attached_from 1 files)
-attached-all told between to files k is all = is ∙ ap (λ n. grown told to (attached_from 1 (take n files))) all ∙ ap (λ l. grown told to (attached_from 1 l)) (take-length files)
-
 -- the attachments so far and one more are the next
-pub attached-more : (files : List File) (k : ℕ) → k < length files → attached_from 1 (take k files) ++ attachment_at files k ≡ attached_from 1 (take (k + 1) files)
-unfolding attachment_at
+pub attached-more : (files : List File) (k : ℕ) → k < length files → attached_from 1 (take k files) ++ attachment (k + 1) (get_or files k no_file) ≡ attached_from 1 (take (k + 1) files)
 attached-more files k inside =
-    ap (λ n. attached_from 1 (take k files) ++ attached_file (get_or files k no_file).0 false n (get_or files k no_file).1) numbered
+    ap (λ n. attached_from 1 (take k files) ++ attachment n (get_or files k no_file)) numbered
     ∙ sym (attached_from-push 1 (take k files) (get_or files k no_file)) ∙ ap (attached_from 1) (sym (take_more files k no_file inside))
   where
     numbered : k + 1 ≡ 1 + length (take k files)
     numbered = omega (arith, length-take-le k files (omega arith))
 
--- the attachments so far and one more
-pub attached-next : (told between after : Told) (to : List ℕ) (files others : List File) (k : ℕ) → between ≡ grown told to (attached_from 1 (take k files)) → others ≡ files → k < length files
-    → after ≡ grown between to (attachment_at others k) → after ≡ grown told to (attached_from 1 (take (k + 1) files))
-attached-next told between after to files others k so_far same inside added =
-    grown-both told between after to _ _ _ so_far (added ∙ ap (λ l. grown between to (attachment_at l k)) same) (λ known. attached-more files k inside)
-
 attached-split : (files : List File) (k : ℕ) → attached_from 1 (take k files) ++ attached_from (1 + length (take k files)) (drop k files) ≡ attached_from 1 files
 attached-split files k = sym (attached_from-append 1 (take k files) (drop k files)) ∙ ap (attached_from 1) (take-append-drop k files)
 
+-- none so far
+pub attached-none : {S : Type 0} (g : Ghosts S) (shelf : S) (to : List ℕ) → Has g shelf to → Grew g shelf shelf to (attached_from 1 [])
+unfolding attached_from
+attached-none g shelf to there = record { files = sym (grown-nothing (g.files shelf) to there); unsealed = refl; faults = omega arith; starved = omega arith }
+
+-- the attachments so far, and the next
+with_next : (files : List File) (k : ℕ) (bytes : List ℕ) → bytes ≡ attachment (k + 1) (get_or files k no_file) → k < length files → attached_from 1 (take k files) ++ bytes ≡ attached_from 1 (take (k + 1) files)
+with_next files k bytes is inside = ap (λ b. attached_from 1 (take k files) ++ b) is ∙ attached-more files k inside
+
+pub attached-next : {S : Type 0} (g : Ghosts S) (old between new : S) (to : List ℕ) (files : List File) (k : ℕ) (bytes : List ℕ) → Grew g old between to (attached_from 1 (take k files)) → bytes ≡ attachment (k + 1) (get_or files k no_file) → k < length files
+    → Grew g between new to bytes → Grew g old new to (attached_from 1 (take (k + 1) files))
+attached-next g old between new to files k bytes so_far is inside added = Grew-both g old between new to _ _ _ so_far added (λ known. with_next files k bytes is inside)
+
 -- it stopped inside one more
-pub attached-stopped : (told between after : Told) (to : List ℕ) (files : List File) (k : ℕ) → between ≡ grown told to (attached_from 1 (take k files)) → k < length files
-    → GrewPartly between to (attachment_at files k) after → GrewPartly told to (attached_from 1 files) after
-attached-stopped told between after to files k so_far inside part =
-    GrewPartly-first told after to _ _ _ (λ known. attached-split files (k + 1)) (GrewPartly-second told between after to _ _ _ so_far (λ known. attached-more files k inside) part)
+pub attached-stopped : {S : Type 0} (g : Ghosts S) (old between new : S) (to : List ℕ) (files : List File) (k : ℕ) (bytes : List ℕ) → Grew g old between to (attached_from 1 (take k files)) → bytes ≡ attachment (k + 1) (get_or files k no_file) → k < length files
+    → GrewInPart g between new to bytes → GrewInPart g old new to (attached_from 1 (others_of files))
+attached-stopped g old between new to files k bytes so_far is inside part =
+    subst (λ l. GrewInPart g old new to (attached_from 1 l)) (sym (others-all files)) (GrewInPart-first g old new to _ _ _ (λ known. attached-split files (k + 1)) (GrewInPart-second g old between new to _ _ _ so_far (λ known. with_next files k bytes is inside) part))
 
 -- it stopped between two
-pub attached-front : (told after : Told) (to : List ℕ) (files : List File) (k : ℕ) → after ≡ grown told to (attached_from 1 (take k files)) → GrewPartly told to (attached_from 1 files) after
-attached-front told after to files k is = record {
-  count = length (attached_from 1 (take k files));
-  within = omega (arith, ap length (attached-split files k), length-append (attached_from 1 (take k files)) (attached_from (1 + length (take k files)) (drop k files)));
-  is = is ∙ ap (grown told to) (sym (take-append_seam _ _) ∙ ap (take _) (attached-split files k));
-}
+pub attached-front : {S : Type 0} (g : Ghosts S) (old new : S) (to : List ℕ) (files : List File) (k : ℕ) → Grew g old new to (attached_from 1 (take k files)) → GrewInPart g old new to (attached_from 1 (others_of files))
+attached-front g old new to files k so_far = subst (λ l. GrewInPart g old new to (attached_from 1 l)) (sym (others-all files)) (GrewInPart-between g old new to _ _ _ so_far (λ known. attached-split files k))
 
--- ---- their records
+-- all of them
+pub attached-all : {S : Type 0} (g : Ghosts S) (old new : S) (to : List ℕ) (files : List File) (k : ℕ) → Grew g old new to (attached_from 1 (take k files)) → k ≡ length files → Grew g old new to (attached_from 1 (others_of files))
+attached-all g old new to files k so_far all =
+    subst (λ bytes. Grew g old new to bytes) (ap (λ n. attached_from 1 (take n files)) all ∙ ap (attached_from 1) (take-length files ∙ sym (others-all files))) so_far
 
-pub records-none : (told : Told) (files : List File) → AreRecordsOf told (take 0 files) []
-records-none told files = record { named = refl; shaped = λ k d h. absurd (omega arith); whole = λ known. refl }
-
-pub records-more : (told between : Told) (to added : List ℕ) (files others : List File) (records : List FileRecord) (made : FileRecord) (k : ℕ) → between ≡ grown told to added → others ≡ files → k < length files
-    → AreRecordsOf told (take k files) records → IsRecordOf between (get_or others k no_file) made → AreRecordsOf told (take (k + 1) files) (records ++ made ∷ [])
-records-more told between to added files others records made k is same inside so_far one =
-    let next = take_more files k no_file inside in
-    let at = ap (λ l. get_or l k no_file) same in
-    record {
-      named = map-append name_of records (made ∷ []) ∙ (λ i. so_far.named i ++ (one.named ∙ ap first at) i ∷ []) ∙ sym (map-append first (take k files) (get_or files k no_file ∷ [])) ∙ ap (map first) (sym next);
-      shaped = All-push HasShape records made so_far.shaped one.shaped;
-      whole = λ known. (λ i. so_far.whole known i ++ (one.whole (IsTold-while_grown told between to added is known) ∙ ap record_of at) i ∷ []) ∙ sym (map-append record_of (take k files) (get_or files k no_file ∷ [])) ∙ ap (map record_of) (sym next);
-    }
-  where
-    name_of : FileRecord → List ℕ
-    name_of r = r.name
-
-    first : File → List ℕ
-    first file = file.0
+pub records-all : (told : Told) (files : List File) (records : List FileRecord) (k : ℕ) → AreTheRecords told (take k files) records → k ≡ length files → AreTheRecords told (others_of files) records
+records-all told files records k so_far all = subst (λ l. AreTheRecords told l records) (ap (λ n. take n files) all ∙ take-length files ∙ sym (others-all files)) so_far

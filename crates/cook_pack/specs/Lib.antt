@@ -1,4 +1,5 @@
 -- What pack refuses, what it plans and what it writes.
+pub mod Attaching
 pub mod Entries
 pub mod Film
 pub mod Offence

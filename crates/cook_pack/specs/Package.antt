@@ -1,64 +1,82 @@
--- The package of a directory of plain files: the header, then the files as attachments in name order, then the side data.
-use Rattle.std.specs.Prelude.{◌≡◌, ℕ, ◌+◌, false, true, List, [], ◌∷◌, ◌++◌, length, map, codes, All}
-use Rattle.std.specs.List.{slice_index_or as get_or}
+-- The package of a directory: the header, the tracks, a Cluster for each block, then the files that are attached as they are, in name
+-- order, and the side data. At this stage each file is attached, and there are no tracks and no blocks.
+use Rattle.std.specs.Prelude.{◌≡◌, ℕ, ◌+◌, ◌≤◌, Bool, false, true, List, [], ◌∷◌, ◌++◌, length, map, filter, take, codes}
 use Rattle.md5.specs.Md5.{md5}
 use Rattle.ebml_core.specs.Element.{element}
-use Rattle.cook_bits.specs.Names.{File, full_name}
-use Rattle.shelf_core.specs.Told.{Told, IsTold, HasFile, IsApart, no_file, content}
+use Rattle.cook_bits.specs.Names.{File}
 use Rattle.reversal.specs.declared.record.FileRecord.{FileRecord}
-use Rattle.reversal.specs.declared.record.Kind.TheVariants.{Other}
-use Rattle.reversal.specs.SideData.{HasShape, side_data_of, names_of}
-use Rattle.cook_pack.specs.Planned.{Planned, IsSound}
+use Rattle.reversal.specs.declared.record.Kind.{Kind}
+use Rattle.reversal.specs.declared.record.Kind.TheVariants.{Other, Frame, Wave}
+use Rattle.reversal.specs.SideData.{side_data_of}
 use Rattle.cook_pack.specs.Pieces.{header_bytes, attached_file}
 
--- what the side data says of a plain file
-abbrev pub record_of : File → FileRecord
-record_of file = record { name = file.0; kind = Other; length = length file.1; md5 = md5 file.1; head = []; pads = []; tail = [] }
+-- ---- kinds
+
+-- what a file of a directory is to the package, by its name
+abbrev pub kind_of : List File → List ℕ → Kind
+kind_of directory name = Other
+
+-- a file that is attached as it is
+abbrev pub is_other : Kind → Bool
+is_other Other = true
+is_other (Frame track index) = false
+is_other (Wave track) = false
+
+-- the files of a directory that are attached as they are
+abbrev pub others_of : List File → List File
+others_of directory = filter (λ (file : File). is_other (kind_of directory file.0)) directory
+
+-- what the side data says of a file that is attached as it is
+abbrev pub other_record : File → FileRecord
+other_record file = record { name = file.0; kind = Other; length = length file.1; md5 = md5 file.1; head = []; pads = []; tail = [] }
+
+-- what it says of a file of a directory
+abbrev pub record_of : List File → File → FileRecord
+record_of directory file = record { name = file.0; kind = kind_of directory file.0; length = length file.1; md5 = md5 file.1; head = []; pads = []; tail = [] }
+
+-- of each file
+abbrev pub records_of : List File → List FileRecord
+records_of directory = map (record_of directory) directory
+
+-- ---- the parts
+
+-- a file as an attachment
+abbrev pub attachment : ℕ → File → List ℕ
+attachment uid file = attached_file file.0 false uid file.1
 
 -- files one after another as attachments, numbered from a first FileUID on
 unfoldable pub attached_from : ℕ → List File → List ℕ
 attached_from uid [] = []
-attached_from uid (file ∷ files) = attached_file file.0 false uid file.1 ++ attached_from (uid + 1) files
+attached_from uid (file ∷ files) = attachment uid file ++ attached_from (uid + 1) files
 
--- the side data of records, as the attachment behind those of their files
-abbrev pub side_attached : List FileRecord → List ℕ
-side_attached records = attached_file (codes "cook.rev") true (length records + 1) (side_data_of records)
+-- the side data of records as an attachment
+abbrev pub side_attached : ℕ → List FileRecord → List ℕ
+side_attached uid records = attached_file (codes "cook.rev") true uid (side_data_of records)
 
--- the files in name order, then the side data
+-- the other files in name order, then the side data, numbered behind them
 unfoldable pub attachments_of : List File → List ℕ
-attachments_of directory = attached_from 1 directory ++ side_attached (map record_of directory)
+attachments_of directory = attached_from 1 (others_of directory) ++ side_attached (length (others_of directory) + 1) (records_of directory)
 
--- the header and the Attachments
-unfoldable pub package_bytes : List File → List ℕ
-package_bytes directory = header_bytes ++ element 0x1941A469 (attachments_of directory)
+-- the Attachments element
+unfoldable pub attachments_bytes : List File → List ℕ
+attachments_bytes directory = element 0x1941A469 (attachments_of directory)
+
+-- the Tracks element: none, as long as no file is coded
+abbrev pub tracks_bytes : List File → ℕ → List ℕ
+tracks_bytes directory rate = []
+
+-- the Clusters, one for each block, in the order of their times: none, as long as no file is coded
+abbrev pub clusters_bytes : List File → ℕ → List ℕ
+clusters_bytes directory rate = []
+
+-- ---- the package
 
 -- the package of a directory at a rate of frames a second, which only film shows
-abbrev pub package_of : List File → ℕ → List ℕ
-package_of directory rate = package_bytes directory
+unfoldable pub package_of : List File → ℕ → List ℕ
+package_of directory rate = header_bytes ++ (tracks_bytes directory rate ++ (clusters_bytes directory rate ++ attachments_bytes directory))
 
--- the files of a plan, with the contents that a shelf tells
-unfoldable pub planned_files : Told → Planned → List File
-planned_files told plan = map (λ name. (name, content told (full_name plan.root name))) plan.names
-
--- the file at a place of a directory as an attachment, numbered from 1
-unfoldable pub attachment_at : List File → ℕ → List ℕ
-attachment_at directory k = attached_file (get_or directory k no_file).0 false (k + 1) (get_or directory k no_file).1
-
--- Planned files can be attached to a package: each is there beside it, and where the shelf tells, has the length that was asked before.
-pub record CanAttach (told : Told) (plan : Planned) (to : List ℕ) : Type 0 where
-  pub sound : IsSound plan
-  pub there : All (λ name. HasFile told (full_name plan.root name)) plan.names
-  pub apart : All (λ name. IsApart told (full_name plan.root name) to) plan.names
-  pub measured : IsTold told → plan.lengths ≡ map (λ file. length file.1) (planned_files told plan)
-
--- the record of a file, and where the shelf tells, with the sum of its content
-pub record IsRecordOf (told : Told) (file : File) (made : FileRecord) : Type 0 where
-  pub named : made.name ≡ file.0
-  pub shaped : HasShape made
-  pub whole : IsTold told → made ≡ record_of file
-
--- the records of files in their order
-pub record AreRecordsOf (told : Told) (files : List File) (records : List FileRecord) : Type 0 where
-  pub named : names_of records ≡ map (λ file. file.0) files
-  pub shaped : All HasShape records
-  pub whole : IsTold told → records ≡ map record_of files
+-- what a stopped pack leaves in the package: a front of it
+pub record IsLeaving (directory : List File) (rate : ℕ) (left : List ℕ) : Type 0 where
+  pub count : ℕ
+  pub within : count ≤ length (package_of directory rate)
+  pub is : left ≡ take count (package_of directory rate)

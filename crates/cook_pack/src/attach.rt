@@ -1,14 +1,17 @@
-// The planned files as attachments of a package, and the records that the side data keeps of them.
-ghost use Rattle.std.specs.Prelude.{◌≡◌, ◌+◌, ◌<◌, ◌≤◌, ◌^◌, ◌++◌, ◌∷◌, length, slice_index_or, false, IfOk, OnOk, OnErr, IfErr};
-ghost use Rattle.shelf_core.specs.Told.{IsTold, HasFile, IsApart, IsPending, GrewPartly, content, grown, no_file};
+// The planned files that are attached as they are, and the records that the side data keeps of them.
+ghost use Rattle.std.specs.Prelude.{◌≡◌, ◌<◌, ◌^◌, length, false, IfOk, OnOk, OnErr, IfErr};
+ghost use Rattle.shelf_core.specs.Reads.{Tells, Has, Differ, IsUnsealed, bytes_of};
+ghost use Rattle.shelf_core.specs.Writes.{Grew, GrewInPart};
+ghost use Rattle.cook_pack.specs.Attaching.{AreRecordsOf, CanAttach, CanAttachFile, IsRecordOf, file_on, files_on, others_on};
+ghost use Rattle.cook_pack.specs.Package.{attachment, others_of};
 ghost use Rattle.cook_pack.specs.Pieces.{attached_file};
-ghost use Rattle.cook_pack.specs.Package.{AreRecordsOf, CanAttach, IsRecordOf, attached_from, attachment_at, planned_files};
 ghost use Rattle.cook_pack.specs.Planned.{Planned, IsInPlan};
 ghost use Rattle.cook_pack.specs.Stops.{StopsFor, StopsFrom};
 ghost use Rattle.md5.specs.Md5.{md5};
 
+use crate::append::append_piece;
 use crate::pieces::attached_head;
-use crate::{PackError, Plan};
+use crate::{PackError, Plan, PlannedFile, PlannedKind};
 use cook_bits::{Bytes, Name, NoMemory, full_name};
 use reversal::{FileRecord, Kind};
 use shelf_core::{PieceError, Shelf};
@@ -22,7 +25,7 @@ pub struct Attachment<'a> {
     pub name: &'a str,
     /// The length of its content in bytes.
     pub len: u64,
-    /// Its FileUID: its number in the package, from 1 (RFC 9559, section 5.1.6.1.5).
+    /// Its FileUID: its number among the attachments, from 1 (RFC 9559, section 5.1.6.1.5).
     pub uid: u64,
 }
 
@@ -57,20 +60,23 @@ pub fn attach_file<S: Shelf>(
     requires room { 0 < length buffer.old }
     requires name { length file.name.now < 2 ^ 54 }
     requires len { file.len < 2 ^ 54 }
-    requires there { HasFile (S.files shelf.old) from.now }
-    requires open { IsPending (S.unsealed shelf.old) to.now }
-    requires target { HasFile (S.files shelf.old) to.now }
-    requires apart { IsApart (S.files shelf.old) from.now to.now }
-    requires measured { IsTold (S.files shelf.old) → file.len ≡ length (content (S.files shelf.old) from.now) }
-    ensures attached { OnOk result (S.files shelf.new ≡ grown (S.files shelf.old) to.now (attached_file file.entry.name.now false file.entry.uid (content (S.files shelf.old) from.now))) }
-    ensures sum { IfOk result (λ sum. IsTold (S.files shelf.old) → sum ≡ md5 (content (S.files shelf.old) from.now)) }
-    ensures stopped { OnErr result (GrewPartly (S.files shelf.old) to.now (attached_file file.entry.name.now false file.entry.uid (content (S.files shelf.old) from.now)) (S.files shelf.new)) }
-    ensures unsealed { S.unsealed shelf.new ≡ S.unsealed shelf.old }
-    ensures kept { S.faults shelf.old ≤ S.faults shelf.new }
-    ensures cause { (plan : Planned) → IsInPlan plan file.entry.name.now file.entry.len → IfErr result (StopsFor (S.files shelf.old) plan (S.faults shelf.old) (S.faults shelf.new)) }
+    requires there { Has S.Shelf shelf.old from.now }
+    requires open { IsUnsealed S.Shelf shelf.old to.now }
+    requires target { Has S.Shelf shelf.old to.now }
+    requires apart { Differ S.Shelf shelf.old from.now to.now }
+    requires measured { Tells S.Shelf shelf.old → file.len ≡ length (bytes_of S.Shelf shelf.old from.now) }
+    ensures attached { let content = bytes_of S.Shelf shelf.old from.now in
+        let whole = attached_file file.entry.name.now false file.entry.uid content in
+        OnOk result (Grew S.Shelf shelf.old shelf.new to.now whole) }
+    ensures sum { IfOk result (λ sum. Tells S.Shelf shelf.old → sum ≡ md5 (bytes_of S.Shelf shelf.old from.now)) }
+    ensures stopped { let content = bytes_of S.Shelf shelf.old from.now in
+        let whole = attached_file file.entry.name.now false file.entry.uid content in
+        OnErr result (GrewInPart S.Shelf shelf.old shelf.new to.now whole) }
+    ensures cause { (plan : Planned) → IsInPlan plan file.entry.name.now file.entry.len
+        → IfErr result (StopsFor S.Shelf shelf.old shelf.new plan) }
 {
     let head = attached_head(alloc, file.name, false, file.uid, file.len)?;
-    shelf.append(to, head.as_slice())?;
+    append_piece(shelf, to, head.as_slice())?;
     let part = Part {
         name: from,
         at: 0,
@@ -82,41 +88,42 @@ pub fn attach_file<S: Shelf>(
     }
 }
 
-/// Attaches the planned file at a place, numbered from 1, and answers its record.
+/// Attaches a planned file that stands under a root, with its FileUID, and answers its record.
 #[tactic(auto, using(crate::proofs::AttachLaws::attach_laws))]
 fn attach_planned<S: Shelf>(
     alloc: Global,
     shelf: &mut S,
-    plan: &Plan,
-    index: usize,
+    root: &str,
+    file: &PlannedFile,
+    uid: u64,
     to: &str,
     buffer: &mut [u8],
 ) -> Result<FileRecord, PackError>
     requires room { 0 < length buffer.old }
-    requires inside { index < length plan.now.names }
-    requires ready { CanAttach (S.files shelf.old) plan.now to.now }
-    requires open { IsPending (S.unsealed shelf.old) to.now }
-    requires target { HasFile (S.files shelf.old) to.now }
-    ensures attached { OnOk result (S.files shelf.new ≡ grown (S.files shelf.old) to.now (attachment_at (planned_files (S.files shelf.old) plan.now) index)) }
-    ensures record { IfOk result (IsRecordOf (S.files shelf.old) (slice_index_or (planned_files (S.files shelf.old) plan.now) index no_file)) }
-    ensures stopped { OnErr result (GrewPartly (S.files shelf.old) to.now (attachment_at (planned_files (S.files shelf.old) plan.now) index) (S.files shelf.new)) }
-    ensures unsealed { S.unsealed shelf.new ≡ S.unsealed shelf.old }
-    ensures kept { S.faults shelf.old ≤ S.faults shelf.new }
-    ensures cause { IfErr result (StopsFor (S.files shelf.old) plan.now (S.faults shelf.old) (S.faults shelf.new)) }
+    requires ready { CanAttachFile S.Shelf shelf.old root.now to.now file.now }
+    requires open { IsUnsealed S.Shelf shelf.old to.now }
+    requires target { Has S.Shelf shelf.old to.now }
+    ensures attached { let file = file_on S.Shelf shelf.old root.now file.now in
+        OnOk result (Grew S.Shelf shelf.old shelf.new to.now (attachment uid file)) }
+    ensures record { IfOk result (IsRecordOf S.Shelf shelf.old (file_on S.Shelf shelf.old root.now file.now)) }
+    ensures stopped { let file = file_on S.Shelf shelf.old root.now file.now in
+        OnErr result (GrewInPart S.Shelf shelf.old shelf.new to.now (attachment uid file)) }
+    ensures cause { (plan : Planned) → IsInPlan plan file.now.name file.now.length
+        → IfErr result (StopsFor S.Shelf shelf.old shelf.new plan) }
 {
-    let name = plan.name(index);
-    let file = Attachment {
-        name,
-        len: plan.length(index),
-        uid: index as u64 + 1,
-    };
-    let from = full_name(alloc, plan.root(), name)?;
+    let name = file.name.as_str();
+    let from = full_name(alloc, root, name)?;
     let held = Name::copy(alloc, name)?;
-    let md5 = attach_file(alloc, shelf, from.as_str(), file, to, buffer)?;
+    let attachment = Attachment {
+        name,
+        len: file.length,
+        uid,
+    };
+    let md5 = attach_file(alloc, shelf, from.as_str(), attachment, to, buffer)?;
     Ok(FileRecord {
         name: held,
         kind: Kind::Other,
-        length: file.len,
+        length: file.length,
         md5,
         head: Bytes::new(alloc),
         pads: Bytes::new(alloc),
@@ -134,30 +141,35 @@ fn buffer_of(alloc: Global, len: usize) -> Result<Vec<u8>, AllocError>
     vec![in alloc; 0u8; len]
 }
 
-/// Attaches the planned files in their order, numbered from 1, and answers their records.
-pub fn attach_files<S: Shelf>(
+/// Attaches the planned files that are attached as they are, in their order and numbered from 1, and answers their records.
+pub fn attach_others<S: Shelf>(
     alloc: Global,
     shelf: &mut S,
     plan: &Plan,
     to: &str,
 ) -> Result<Vec<FileRecord>, PackError>
-    requires ready { CanAttach (S.files shelf.old) plan.now to.now }
-    requires open { IsPending (S.unsealed shelf.old) to.now }
-    requires target { HasFile (S.files shelf.old) to.now }
-    ensures attached { OnOk result (S.files shelf.new ≡ grown (S.files shelf.old) to.now (attached_from 1 (planned_files (S.files shelf.old) plan.now))) }
-    ensures records { IfOk result (λ records. AreRecordsOf (S.files shelf.old) (planned_files (S.files shelf.old) plan.now) records.items) }
-    ensures stopped { OnErr result (GrewPartly (S.files shelf.old) to.now (attached_from 1 (planned_files (S.files shelf.old) plan.now)) (S.files shelf.new)) }
-    ensures unsealed { S.unsealed shelf.new ≡ S.unsealed shelf.old }
-    ensures kept { S.faults shelf.old ≤ S.faults shelf.new }
-    ensures cause { IfErr result (StopsFor (S.files shelf.old) plan.now (S.faults shelf.old) (S.faults shelf.new)) }
+    requires ready { CanAttach S.Shelf shelf.old plan.now to.now }
+    requires open { IsUnsealed S.Shelf shelf.old to.now }
+    requires target { Has S.Shelf shelf.old to.now }
+    ensures attached { OnOk result (Grew S.Shelf shelf.old shelf.new to.now (others_on S.Shelf shelf.old plan.now)) }
+    ensures records { let files = others_of (files_on S.Shelf shelf.old plan.now) in
+        IfOk result (λ records. AreRecordsOf S.Shelf shelf.old files records.items) }
+    ensures stopped { OnErr result (GrewInPart S.Shelf shelf.old shelf.new to.now (others_on S.Shelf shelf.old plan.now)) }
+    ensures cause { IfErr result (StopsFor S.Shelf shelf.old shelf.new plan.now) }
 {
     let mut held = buffer_of(alloc, PIECE)?;
     let buffer = held.as_mut_slice();
     let mut records = Vec::new(alloc);
-    let files = plan.files() as usize;
-    for index in 0..files {
-        let record = attach_planned(alloc, shelf, plan, index, to, buffer)?;
-        records.push(record)?;
+    let mut uid = 1;
+    let files = plan.as_slice();
+    for file in files {
+        match file.kind {
+            PlannedKind::Other => {
+                let record = attach_planned(alloc, shelf, plan.root(), file, uid, to, buffer)?;
+                records.push(record)?;
+                uid += 1;
+            }
+        }
     }
     Ok(records)
 }

@@ -1,21 +1,23 @@
-// The package as a whole: its creation, what stands before the attachments, the attachments, its sealing.
-ghost use Rattle.std.specs.Prelude.{◌≡◌, ◌+◌, ◌<◌, ◌≤◌, ◌^◌, ◌++◌, length, [], List, ℕ, OnOk, OnErr, IfOk, IfErr};
-ghost use Rattle.shelf_core.specs.Causes.{HasCause};
-ghost use Rattle.shelf_core.specs.Told.{IsTold, HasFile, IsAtRest, IsFree, IsPending, GrewPartly, grown, under, with_file, with_pending};
+// The package as a whole: its creation, its parts in their order, its sealing.
+ghost use Rattle.std.specs.Prelude.{◌≡◌, ◌<◌, ◌≤◌, ◌^◌, length, List, ℕ, OnOk, OnErr, IfOk, IfErr};
+ghost use Rattle.cook_bits.specs.Names.{File};
 ghost use Rattle.reversal.specs.SideData.{AreRecords};
-ghost use Rattle.cook_pack.specs.Package.{CanAttach, attachments_of, package_bytes, package_of, planned_files, side_attached};
-ghost use Rattle.cook_pack.specs.Pieces.{header_bytes, attachments_head};
-ghost use Rattle.cook_pack.specs.Planned.{Planned, Fits};
+ghost use Rattle.shelf_core.specs.Reads.{CountsStay, Has, IsUnsealed, Tells};
+ghost use Rattle.shelf_core.specs.Writes.{Created, Grew, GrewInPart, Wrote};
+ghost use Rattle.cook_pack.specs.Attaching.{CanAttach, attachments_bytes_on, attachments_on, package_on};
+ghost use Rattle.cook_pack.specs.Package.{package_of, side_attached};
+ghost use Rattle.cook_pack.specs.Planned.{Planned, FitsShelf, directory_of};
 ghost use Rattle.cook_pack.specs.Stops.{StopsFor, LeavesFor, IsNotPacked, NotCreated};
 ghost use Rattle.cook_pack.specs.Sum.{IsSumOf};
 
-use crate::attach::attach_files;
+use crate::append::{append_both, append_piece};
+use crate::attach::attach_others;
 use crate::lengths::attachments_len;
 use crate::pieces::{attached_head, attachments_head, header};
 use crate::{PackError, Plan};
-use cook_bits::{Bytes, Name, NoMemory};
+use cook_bits::{Name, NoMemory};
 use reversal::FileRecord;
-use shelf_core::{CreateError, Shelf, ShelfError};
+use shelf_core::{CreateError, Shelf};
 use std::alloc::Global;
 
 /// How a package is written.
@@ -40,102 +42,92 @@ pub struct PackSum {
     pub bytes: u64,
 }
 
-// Appends two pieces, one after the other.
-#[tactic(auto, using(shelf_core::proofs::FileLaws::file_laws))]
-fn append_both<S: Shelf>(
-    shelf: &mut S,
-    to: &str,
-    first: &[u8],
-    second: &[u8],
-) -> Result<(), ShelfError>
-    requires { IsPending (S.unsealed shelf.old) to.now }
-    ensures ok { OnOk result (S.files shelf.new ≡ grown (S.files shelf.old) to.now (first.now ++ second.now)) }
-    ensures err { OnErr result (GrewPartly (S.files shelf.old) to.now (first.now ++ second.now) (S.files shelf.new)) }
-    ensures unsealed { S.unsealed shelf.new ≡ S.unsealed shelf.old }
-    ensures cause { HasCause ShelfError.Failed ShelfError.NoMemory (S.faults shelf.old) (S.faults shelf.new) (S.starved shelf.old) (S.starved shelf.new) result }
-{
-    shelf.append(to, first)?;
-    shelf.append(to, second)
-}
-
-// Attaches the side data of records, behind their files.
+// Attaches the side data of records, with its FileUID.
 fn attach_side<S: Shelf>(
     alloc: Global,
     shelf: &mut S,
+    uid: u64,
     records: &[FileRecord],
     to: &str,
 ) -> Result<(), PackError>
     requires are { AreRecords records.now }
     requires few { length records.now ≤ 1000000 }
-    requires open { IsPending (S.unsealed shelf.old) to.now }
-    requires target { HasFile (S.files shelf.old) to.now }
-    ensures attached { OnOk result (S.files shelf.new ≡ grown (S.files shelf.old) to.now (side_attached records.now)) }
-    ensures stopped { OnErr result (GrewPartly (S.files shelf.old) to.now (side_attached records.now) (S.files shelf.new)) }
-    ensures unsealed { S.unsealed shelf.new ≡ S.unsealed shelf.old }
-    ensures kept { S.faults shelf.old ≤ S.faults shelf.new }
-    ensures cause { (plan : Planned) → IfErr result (StopsFor (S.files shelf.old) plan (S.faults shelf.old) (S.faults shelf.new)) }
+    requires open { IsUnsealed S.Shelf shelf.old to.now }
+    requires target { Has S.Shelf shelf.old to.now }
+    ensures attached { OnOk result (Grew S.Shelf shelf.old shelf.new to.now (side_attached uid records.now)) }
+    ensures stopped { OnErr result (GrewInPart S.Shelf shelf.old shelf.new to.now (side_attached uid records.now)) }
+    ensures cause { (plan : Planned) → IfErr result (StopsFor S.Shelf shelf.old shelf.new plan) }
 {
     let side = reversal::write(alloc, records)?;
     let len = side.as_slice().len() as u64;
-    let head = attached_head(alloc, "cook.rev", true, records.len() as u64 + 1, len)?;
+    let head = attached_head(alloc, "cook.rev", true, uid, len)?;
     append_both(shelf, to, head.as_slice(), side.as_slice())?;
     Ok(())
 }
 
 // Attaches the planned files and the side data.
-fn write_attachments<S: Shelf>(
+fn attach_all<S: Shelf>(
     alloc: Global,
     shelf: &mut S,
     plan: &Plan,
     to: &str,
 ) -> Result<(), PackError>
-    requires ready { CanAttach (S.files shelf.old) plan.now to.now }
-    requires open { IsPending (S.unsealed shelf.old) to.now }
-    requires target { HasFile (S.files shelf.old) to.now }
-    ensures attached { OnOk result (S.files shelf.new ≡ grown (S.files shelf.old) to.now (attachments_of (planned_files (S.files shelf.old) plan.now))) }
-    ensures stopped { OnErr result (GrewPartly (S.files shelf.old) to.now (attachments_of (planned_files (S.files shelf.old) plan.now)) (S.files shelf.new)) }
-    ensures unsealed { S.unsealed shelf.new ≡ S.unsealed shelf.old }
-    ensures kept { S.faults shelf.old ≤ S.faults shelf.new }
-    ensures cause { IfErr result (StopsFor (S.files shelf.old) plan.now (S.faults shelf.old) (S.faults shelf.new)) }
+    requires ready { CanAttach S.Shelf shelf.old plan.now to.now }
+    requires open { IsUnsealed S.Shelf shelf.old to.now }
+    requires target { Has S.Shelf shelf.old to.now }
+    ensures attached { OnOk result (Grew S.Shelf shelf.old shelf.new to.now (attachments_on S.Shelf shelf.old plan.now)) }
+    ensures stopped { OnErr result (GrewInPart S.Shelf shelf.old shelf.new to.now (attachments_on S.Shelf shelf.old plan.now)) }
+    ensures cause { IfErr result (StopsFor S.Shelf shelf.old shelf.new plan.now) }
 {
-    let records = attach_files(alloc, shelf, plan, to)?;
-    attach_side(alloc, shelf, &records, to)?;
+    let attached = attach_others(alloc, shelf, plan, to)?;
+    let records = attached.as_slice();
+    let uid = records.len() as u64 + 1;
+    attach_side(alloc, shelf, uid, records, to)?;
     Ok(())
 }
 
-// Writes the whole package, and answers its length.
+// Writes the Attachments, and answers their length.
+fn write_attachments<S: Shelf>(
+    alloc: Global,
+    shelf: &mut S,
+    plan: &Plan,
+    to: &str,
+) -> Result<u64, PackError>
+    requires ready { CanAttach S.Shelf shelf.old plan.now to.now }
+    requires open { IsUnsealed S.Shelf shelf.old to.now }
+    requires target { Has S.Shelf shelf.old to.now }
+    ensures written { OnOk result (Grew S.Shelf shelf.old shelf.new to.now (attachments_bytes_on S.Shelf shelf.old plan.now)) }
+    ensures bytes { IfOk result (λ bytes. Tells S.Shelf shelf.old → bytes ≡ length (attachments_bytes_on S.Shelf shelf.old plan.now)) }
+    ensures small { IfOk result (λ bytes. bytes < 2 ^ 55) }
+    ensures stopped { OnErr result (GrewInPart S.Shelf shelf.old shelf.new to.now (attachments_bytes_on S.Shelf shelf.old plan.now)) }
+    ensures cause { IfErr result (StopsFor S.Shelf shelf.old shelf.new plan.now) }
+{
+    let content = attachments_len(plan);
+    let head = attachments_head(alloc, content)?;
+    append_piece(shelf, to, head.as_slice())?;
+    attach_all(alloc, shelf, plan, to)?;
+    Ok(head.as_slice().len() as u64 + content)
+}
+
+// Writes the whole package, part by part, and answers its length.
 fn write_package<S: Shelf>(
     alloc: Global,
     shelf: &mut S,
     plan: &Plan,
     to: &str,
 ) -> Result<u64, PackError>
-    requires ready { CanAttach (S.files shelf.old) plan.now to.now }
-    requires open { IsPending (S.unsealed shelf.old) to.now }
-    requires target { HasFile (S.files shelf.old) to.now }
-    ensures written { OnOk result (S.files shelf.new ≡ grown (S.files shelf.old) to.now (package_bytes (planned_files (S.files shelf.old) plan.now))) }
-    ensures bytes { IfOk result (λ bytes. IsTold (S.files shelf.old) → bytes ≡ length (package_bytes (planned_files (S.files shelf.old) plan.now))) }
-    ensures stopped { OnErr result (GrewPartly (S.files shelf.old) to.now (package_bytes (planned_files (S.files shelf.old) plan.now)) (S.files shelf.new)) }
-    ensures unsealed { S.unsealed shelf.new ≡ S.unsealed shelf.old }
-    ensures kept { S.faults shelf.old ≤ S.faults shelf.new }
-    ensures cause { IfErr result (StopsFor (S.files shelf.old) plan.now (S.faults shelf.old) (S.faults shelf.new)) }
+    requires ready { CanAttach S.Shelf shelf.old plan.now to.now }
+    requires open { IsUnsealed S.Shelf shelf.old to.now }
+    requires target { Has S.Shelf shelf.old to.now }
+    ensures written { (rate : ℕ) → OnOk result (Grew S.Shelf shelf.old shelf.new to.now (package_on S.Shelf shelf.old plan.now rate)) }
+    ensures bytes { (rate : ℕ) → IfOk result (λ bytes. Tells S.Shelf shelf.old → bytes ≡ length (package_on S.Shelf shelf.old plan.now rate)) }
+    ensures stopped { (rate : ℕ) → OnErr result (GrewInPart S.Shelf shelf.old shelf.new to.now (package_on S.Shelf shelf.old plan.now rate)) }
+    ensures cause { IfErr result (StopsFor S.Shelf shelf.old shelf.new plan.now) }
 {
-    let content = attachments_len(plan);
-    let head = package_head(alloc, content)?;
-    shelf.append(to, head.as_slice())?;
-    write_attachments(alloc, shelf, plan, to)?;
-    Ok(head.as_slice().len() as u64 + content)
-}
-
-// What stands before the attachments.
-fn package_head(alloc: Global, content: u64) -> Result<Bytes, NoMemory>
-    requires { content < 2 ^ 54 }
-    ensures head { IfOk result (λ head. head ≡ header_bytes ++ attachments_head content) }
-    ensures short { IfOk result (λ head. length head ≤ 100) }
-{
-    let mut head = header(alloc)?;
-    head.append(attachments_head(alloc, content)?.as_slice())?;
-    Ok(head)
+    let header = header(alloc)?;
+    append_piece(shelf, to, header.as_slice())?;
+    let attachments = write_attachments(alloc, shelf, plan, to)?;
+    Ok(header.as_slice().len() as u64 + attachments)
 }
 
 // The refusal for which a package was not created.
@@ -154,13 +146,10 @@ fn not_created(alloc: Global, pkg: &str, error: CreateError) -> PackError
 
 // Creates the package, empty.
 fn create_package<S: Shelf>(alloc: Global, shelf: &mut S, pkg: &str) -> Result<(), PackError>
-    ensures free { OnOk result (IsFree (S.files shelf.old) pkg.now) }
-    ensures at_rest { OnOk result (IsAtRest (S.unsealed shelf.old) pkg.now) }
-    ensures created { OnOk result (S.files shelf.new ≡ with_file (S.files shelf.old) pkg.now []) }
-    ensures pending { OnOk result (S.unsealed shelf.new ≡ with_pending (S.unsealed shelf.old) pkg.now) }
-    ensures left { (whole : List ℕ) → IfErr result (LeavesFor (S.files shelf.old) (S.files shelf.new) (S.unsealed shelf.old) (S.unsealed shelf.new) pkg.now whole) }
-    ensures cause { (plan : Planned) → IfErr result (IsNotPacked (S.files shelf.old) plan (S.faults shelf.old) (S.faults shelf.new)) }
-    ensures kept { S.faults shelf.old ≤ S.faults shelf.new }
+    ensures created { OnOk result (Created S.Shelf shelf.old shelf.new pkg.now) }
+    ensures left { (directory : List File) (rate : ℕ) → IfErr result (LeavesFor S.Shelf shelf.old shelf.new pkg.now directory rate) }
+    ensures cause { (plan : Planned) → IfErr result (IsNotPacked S.Shelf shelf.old shelf.new plan) }
+    ensures counts { CountsStay S.Shelf shelf.old shelf.new }
 {
     match shelf.create(pkg) {
         Ok(()) => Ok(()),
@@ -182,14 +171,15 @@ pub fn pack<S: Shelf>(
 ) -> Result<PackSum, PackError>
     requires workers { (1 ≤ options.workers) × (options.workers ≤ 64) }
     requires rate { (1 ≤ options.rate) × (options.rate ≤ 240) }
-    requires fits { IsTold (S.files shelf.old) → Fits (S.files shelf.old) plan.now }
-    ensures packed { OnOk result (S.files shelf.new ≡ with_file (S.files shelf.old) pkg.now (package_of (under (S.files shelf.old) plan.now.root) options.rate)) }
-    ensures free { OnOk result (IsFree (S.files shelf.old) pkg.now) }
-    ensures sum { IfOk result (λ sum. IsTold (S.files shelf.old) → IsSumOf (under (S.files shelf.old) plan.now.root) options.rate sum) }
-    ensures sealed { OnOk result (S.unsealed shelf.new ≡ S.unsealed shelf.old) }
-    ensures left { IfErr result (LeavesFor (S.files shelf.old) (S.files shelf.new) (S.unsealed shelf.old) (S.unsealed shelf.new) pkg.now (package_of (under (S.files shelf.old) plan.now.root) options.rate)) }
-    ensures cause { IfErr result (IsNotPacked (S.files shelf.old) plan.now (S.faults shelf.old) (S.faults shelf.new)) }
-    ensures kept { S.faults shelf.old ≤ S.faults shelf.new }
+    requires fits { FitsShelf S.Shelf shelf.old plan.now }
+    ensures packed { let directory = directory_of S.Shelf shelf.old plan.now.root in
+        OnOk result (Wrote S.Shelf shelf.old shelf.new pkg.now (package_of directory options.rate)) }
+    ensures sum { let directory = directory_of S.Shelf shelf.old plan.now.root in
+        IfOk result (λ sum. Tells S.Shelf shelf.old → IsSumOf directory options.rate sum) }
+    ensures left { let directory = directory_of S.Shelf shelf.old plan.now.root in
+        IfErr result (LeavesFor S.Shelf shelf.old shelf.new pkg.now directory options.rate) }
+    ensures cause { IfErr result (IsNotPacked S.Shelf shelf.old shelf.new plan.now) }
+    ensures counts { CountsStay S.Shelf shelf.old shelf.new }
 {
     let files = plan.files();
     create_package(alloc, shelf, pkg)?;

@@ -1,21 +1,20 @@
 // The plan as a value, which keeps what was found sound.
-ghost use Rattle.std.specs.Prelude.{◌≡◌, ◌<◌, length, slice_index, slice_index_or, []};
+ghost use Rattle.std.specs.Prelude.{◌≡◌, length};
 ghost use Rattle.cook_pack.specs.Planned.{IsSound};
 ghost use Rattle.cook_pack.specs.Entries.{planned};
 
+use crate::PlannedFile;
 use cook_bits::Name;
-use shelf_core::Entry;
 use std::marker::Model;
 
-/// What is to be packed: the files under a root, by relative names in byte order, with their lengths in bytes.
+/// What is to be packed: the files under a root, in byte order of their relative names.
 ///
 /// Every plan, from whatever shelf, has at most 1,000,000 files, whose names are relative, distinct and none a folder of
 /// another, and at most 2^50 bytes.
 #[derive(Debug, Drop)]
 pub struct Plan {
     root: Name,
-    entries: Vec<Entry>,
-    lengths: Vec<u64>,
+    files: Vec<PlannedFile>,
 }
 
 impl Model for Plan {
@@ -24,30 +23,26 @@ impl Model for Plan {
 
     ghost Value = { Planned };
 
-    ghost view = { λ plan. planned plan.root plan.entries.items plan.lengths.items };
+    ghost view = { λ plan. planned plan.root plan.files.items };
 
-    ghost invariant = { λ plan. IsSound (planned plan.root plan.entries.items plan.lengths.items) };
+    ghost invariant = { λ plan. IsSound (planned plan.root plan.files.items) };
 }
 
 impl Plan {
-    /// Keeps the root, the entries in their order and the lengths of their files.
-    pub fn new(root: Name, entries: Vec<Entry>, lengths: Vec<u64>) -> Plan
-        requires { IsSound (planned root entries.items lengths.items) }
-        ensures { result ≡ planned root entries.items lengths.items }
+    /// Keeps the root and the files in their order.
+    pub fn new(root: Name, files: Vec<PlannedFile>) -> Plan
+        requires { IsSound (planned root files.items) }
+        ensures { result ≡ planned root files.items }
     {
-        Plan {
-            root,
-            entries,
-            lengths,
-        }
+        Plan { root, files }
     }
 
     /// The number of files.
     pub fn files(&self) -> u32
-        ensures count { result ≡ length self.now.names }
+        ensures count { result ≡ length self.now.files }
         ensures sound { IsSound self.now }
     {
-        self.entries.len() as u32
+        self.files.len() as u32
     }
 
     /// The number of tracks: none, as long as neither frames nor waves are coded.
@@ -64,19 +59,11 @@ impl Plan {
         self.root.as_str()
     }
 
-    /// The relative name of a file, which are numbered from 0.
-    pub fn name(&self, index: usize) -> &str
-        requires { index < length self.now.names }
-        ensures { result.now ≡ slice_index_or self.now.names index [] }
+    /// The files in byte order of their names.
+    pub fn as_slice(&self) -> &[PlannedFile]
+        ensures files { result.now ≡ self.now.files }
+        ensures sound { IsSound self.now }
     {
-        self.entries[index].name.as_str()
-    }
-
-    /// The length of a file in bytes.
-    pub fn length(&self, index: usize) -> u64
-        requires { index < length self.now.names }
-        ensures { result ≡ slice_index self.now.lengths index }
-    {
-        self.lengths[index]
+        self.files.as_slice()
     }
 }

@@ -1,8 +1,8 @@
 -- Laws of where the files of an outline end.
-use Rattle.std.proofs.Common.{◌≡◌, ℕ, ◌-◌, ◌≤◌, Bool, List, [], ◌∷◌, ◌++◌, Ok, Err, subst}
+use Rattle.std.proofs.Common.{◌≡◌, ℕ, ◌-◌, Bool, List, [], ◌∷◌, ◌++◌, Ok, Err, subst}
 use Rattle.std.proofs.lemmas.List.Elements.{All-nil, All-push}
 use Rattle.shelf_reader.specs.declared.error.ReadError.{ReadError}
-use Rattle.shelf_reader.specs.Readings.{gives, looks, answers, Answers}
+use Rattle.shelf_reader.specs.Readings.{gives, answers, Answers}
 use Rattle.shelf_reader.specs.Seen.{Seen, between, is_text_between}
 use Rattle.shelf_reader.proofs.ReadingLaws.{gives-is, looks-on, looks-stops}
 use Rattle.cook_restore.specs.declared.matroska_read.error.OutlineFault.{OutlineFault}

@@ -1,17 +1,19 @@
 -- Laws of the next file: what its giving says of the package's meaning.
-use Rattle.std.proofs.Common.{◌≡◌, ◌⊎◌, inl, inr, ℕ, zero, suc, ◌+◌, ◌<◌, ◌≤◌, Bool, true, false, if◌then◌else◌, List, ◌∷◌, [], length, get_or, Option, Some, None, Result, Ok, All, IfSome, IfOk, IfErr, refl, sym, ap, ◌∙◌, subst, arith}
+use Rattle.std.proofs.Common.{◌≡◌, ◌⊎◌, inl, inr, ℕ, zero, suc, ◌+◌, ◌<◌, ◌≤◌, Bool, true, false, if◌then◌else◌, List, ◌∷◌, [], length, get_or, Option, Some, None, Ok, Err, All, IfSome, refl, sym, ap, ◌∙◌, subst, arith}
 use Rattle.std.proofs.Math.ListN.{get_or-map as get_or-map-any}
 use Rattle.std.proofs.lemmas.List.{get_or-map, length-map}
 use Rattle.cook_bits.specs.Names.{is_same_name, full_name}
-use Rattle.shelf_core.specs.Leaves.{LeavesPart}
-use Rattle.shelf_core.specs.Told.{Told, IsTold, HasFile, IsFree, Pending, content, with_file}
+use Rattle.shelf_core.specs.Reads.{Has}
+use Rattle.shelf_core.specs.Writes.{WroteInPart}
+use Rattle.shelf_core.specs.declared.shelf.Shelf.{Ghosts}
+use Rattle.shelf_core.specs.Told.{Told, HasFile, IsFree, Pending, content, with_file}
 use Rattle.shelf_core.proofs.FileLaws.{HasFile-with_file, IsApart-there, content-apart}
 use Rattle.reversal.specs.declared.record.FileRecord.{FileRecord}
 use Rattle.cook_restore.specs.Contents.{content_found, content_place, content_places, place_or, PlaceEndsBy}
-use Rattle.cook_restore.specs.Giving.{IsContentGiven, IsFound, IsNotFound, NotGiven, LeavesContent, numbered}
+use Rattle.cook_restore.specs.Giving.{Asked, asked_there, asked_at, Means, IsContentGiven, NotGiven, LeavesContent, numbered}
 use Rattle.cook_restore.specs.Inside.{EndsBy}
 use Rattle.cook_restore.specs.Meaning.{meaning_of, files_meant, content_meant, content_at, bytes_at, attached_as, others_of}
-use Rattle.cook_restore.specs.Restoring.{Fits, AreSideRecords, IsMeant, IsMeantWhereTold, IsEnd, IsEndWhereTold, IsGiven, IsThrough, IsNotGiven, LeavesNext, KeepsPackage, next_name, no_record, record_at, with_given, HasFileIn, IsFreeIn}
+use Rattle.cook_restore.specs.Restoring.{Fits, AreSideRecords, IsMeant, IsMeantWhereTold, IsEnd, IsEndWhereTold, IsThrough, GivesNext, IsNotGiven, LeavesNext, KeepsPackage, next_name, no_record, record_at, with_given, HasFileIn, IsFreeIn}
 use Rattle.cook_restore.specs.declared.contents.Content.{Content}
 use Rattle.cook_restore.specs.declared.matroska_read.files.FileAt.{FileAt}
 use Rattle.cook_restore.specs.declared.error.FileWhy.{FileWhy}
@@ -19,7 +21,7 @@ use Rattle.cook_restore.specs.declared.error.PackageWhy.TheVariants as faults
 use Rattle.cook_restore.specs.declared.restorer.Restorer.{Restorer}
 use Rattle.cook_restore.specs.declared.restorer.FileSum.{FileSum}
 use Rattle.cook_restore.specs.declared.stop.Stop.{Stop}
-use Rattle.cook_restore.specs.declared.stop.Stop.TheVariants.{File, InTheWay, Changed, Failed, NoMemory}
+use Rattle.cook_restore.specs.declared.stop.Stop.TheVariants as stop
 use Rattle.cook_restore.proofs.MeaningLaws.{meaning-is, meant-next, meant-fault, meant-whole}
 
 -- ---- where contents stand
@@ -76,29 +78,25 @@ place-ends len said attached ends = attached-ends len said.name (others_of attac
 next-named : (before : Restorer) → next_name before ≡ (record_at before before.number).name
 next-named before = get_or-map-any (λ (r : FileRecord). r.name) before.records.items before.number no_record
 
-found-meant : (told : Told) (before : Restorer) (bytes : List ℕ) → IsTold told → Fits before (content told before.pkg)
-    → IsFound told before.pkg before.len (record_at before before.number) (content_place before.outline (record_at before before.number)) bytes → content_meant before.outline (content told before.pkg) (record_at before before.number) ≡ Ok bytes
-found-meant told before bytes known fits is = sym (found-is before.outline (content told before.pkg) (record_at before before.number)) ∙ is known fits.len
-
 sound-records : (before : Restorer) (bytes : List ℕ) → Fits before bytes → before.number ≤ length (files_meant (content_meant before.outline bytes) before.records.items).files
 sound-records before bytes fits = subst (λ m. before.number ≤ length m.files) (meaning-is bytes before.outline before.records.items fits.outline fits.records) fits.sound
 
-pub next-meant : (told : Told) (before : Restorer) (bytes : List ℕ) → before.number < length before.records.items
-    → IsFound told before.pkg before.len (record_at before before.number) (content_place before.outline (record_at before before.number)) bytes → IsMeantWhereTold told before bytes
-next-meant told before bytes inside is known fits =
-    let whole = meaning-is (content told before.pkg) before.outline before.records.items fits.outline fits.records in
-    let meant = meant-next (content_meant before.outline (content told before.pkg)) before.records.items before.number no_record bytes inside (sound-records before (content told before.pkg) fits) (found-meant told before bytes known fits is) in
+pub next-meant : {S : Type 0} (g : Ghosts S) (old : S) (before : Restorer) (bytes : List ℕ) → before.number < length before.records.items → Means g old (asked_at before before.number) (Ok bytes) → IsMeantWhereTold (g.files old) before bytes
+next-meant g old before bytes inside is known fits =
+    let held : List ℕ = content (g.files old) before.pkg in
+    let whole = meaning-is held before.outline before.records.items fits.outline fits.records in
+    let meant = meant-next (content_meant before.outline held) before.records.items before.number no_record bytes inside (sound-records before held fits) (is known fits.len) in
     subst (λ m. IsMeant m before.number (next_name before) bytes) (sym whole)
-    (subst (λ n. IsMeant (files_meant (content_meant before.outline (content told before.pkg)) before.records.items) before.number n bytes) (sym (next-named before)) meant)
+    (subst (λ n. IsMeant (files_meant (content_meant before.outline held) before.records.items) before.number n bytes) (sym (next-named before)) meant)
 
-next-fault : (told : Told) (before : Restorer) (why : FileWhy) → before.number < length before.records.items
-    → IsNotFound told before.pkg before.len (record_at before before.number) (content_place before.outline (record_at before before.number)) why → IsEndWhereTold told before (Some (faults.File (next_name before) why))
-next-fault told before why inside is known fits =
-    let whole = meaning-is (content told before.pkg) before.outline before.records.items fits.outline fits.records in
-    let found = sym (found-is before.outline (content told before.pkg) (record_at before before.number)) ∙ is known fits.len in
-    let end = meant-fault (content_meant before.outline (content told before.pkg)) before.records.items before.number no_record why inside (sound-records before (content told before.pkg) fits) found in
+next-fault : {S : Type 0} (g : Ghosts S) (old : S) (before : Restorer) (why : FileWhy) → before.number < length before.records.items → Means g old (asked_at before before.number) (Err why)
+    → IsEndWhereTold (g.files old) before (Some (faults.File (next_name before) why))
+next-fault g old before why inside is known fits =
+    let held : List ℕ = content (g.files old) before.pkg in
+    let whole = meaning-is held before.outline before.records.items fits.outline fits.records in
+    let end = meant-fault (content_meant before.outline held) before.records.items before.number no_record why inside (sound-records before held fits) (is known fits.len) in
     subst (λ m. IsEnd m before.number (Some (faults.File (next_name before) why))) (sym whole)
-    (subst (λ n. IsEnd (files_meant (content_meant before.outline (content told before.pkg)) before.records.items) before.number (Some (faults.File n why))) (sym (next-named before)) end)
+    (subst (λ n. IsEnd (files_meant (content_meant before.outline held) before.records.items) before.number (Some (faults.File n why))) (sym (next-named before)) end)
 
 next-none : (told : Told) (before : Restorer) → length before.records.items ≤ before.number → IsEndWhereTold told before None
 next-none told before through known fits =
@@ -115,22 +113,21 @@ fits-next before restorer bytes keeps fits sound = record {
   sound = sound;
 }
 
-pub is-given : (told after : Told) (pending pending_after : Pending) (before restorer : Restorer) (sum : FileSum) → before.ended ≡ false → before.number < length before.records.items → sum.number ≡ before.number → restorer.number ≡ before.number + 1 → restorer.ended ≡ false
-    → KeepsPackage before restorer → IsContentGiven told after pending pending_after before.pkg before.len (record_at before before.number) (content_place before.outline (record_at before before.number)) before.target sum.length
-    → IsGiven told after pending pending_after before restorer sum
-is-given told after pending pending_after before restorer sum running inside numbered one_more goes_on keeps given =
-    let meant = next-meant told before given.bytes inside given.is in
+pub is-given : {S : Type 0} (g : Ghosts S) (old new : S) (before restorer : Restorer) (sum : FileSum) → before.ended ≡ false → before.number < length before.records.items → sum.number ≡ before.number → restorer.number ≡ before.number + 1 → restorer.ended ≡ false
+    → KeepsPackage before restorer → IsContentGiven g old new (asked_at before before.number) sum.length → GivesNext g old new before restorer (Some sum)
+is-given g old new before restorer sum running inside numbered one_more goes_on keeps given =
+    let meant = next-meant g old before given.bytes inside given.is in
     record {
       next = record { running = running; next = numbered; within = inside };
       one_more = one_more;
       running = goes_on;
       bytes = given.bytes;
       long = given.long;
-      free = subst (λ n. IsFreeIn told before.target n) (sym (next-named before)) given.free;
-      files = given.files ∙ ap (λ n. with_given told before.target n given.bytes) (sym (next-named before));
+      free = subst (λ n. IsFreeIn (g.files old) before.target n) (sym (next-named before)) given.free;
+      files = given.files ∙ ap (λ n. with_given (g.files old) before.target n given.bytes) (sym (next-named before));
       unsealed = given.unsealed;
       meant = meant;
-      fits = λ known fits. fits-next before restorer (content told before.pkg) keeps fits (omega (arith, one_more, (meant known fits).within));
+      fits = λ known fits. fits-next before restorer (content (g.files old) before.pkg) keeps fits (omega (arith, one_more, (meant known fits).within));
     }
 
 pub is-through : (told : Told) (pending : Pending) (before : Restorer) → (before.ended ≡ true) ⊎ (length before.records.items ≤ before.number) → IsThrough told told pending pending before before
@@ -147,42 +144,41 @@ is-through told pending before why = record {
     by_why running (inl ended) = absurd (cc)
     by_why running (inr through) = next-none told before through
 
-left-next : (told after : Told) (pending pending_after : Pending) (before : Restorer) → before.number < length before.records.items
-    → LeavesContent told after pending pending_after before.pkg before.len (record_at before before.number) (content_place before.outline (record_at before before.number)) before.target → LeavesNext told after pending pending_after before
-left-next told after pending pending_after before inside (inl nothing) = inl nothing
-left-next told after pending pending_after before inside (inr part) = inr (record {
+left-next : {S : Type 0} (g : Ghosts S) (old new : S) (before : Restorer) → before.number < length before.records.items → LeavesContent g old new (asked_at before before.number)
+    → LeavesNext (g.files old) (g.files new) (g.unsealed old) (g.unsealed new) before
+left-next g old new before inside (inl nothing) = inl nothing
+left-next g old new before inside (inr part) = inr (record {
   dir = part.dir;
   target = part.aimed;
   bytes = part.bytes;
-  left = subst (λ n. LeavesPart told after pending pending_after (full_name part.dir n) part.bytes) (sym (next-named before)) part.left;
-  meant = next-meant told before part.bytes inside part.is;
+  left = subst (λ n. WroteInPart g old new (full_name part.dir n) part.bytes) (sym (next-named before)) part.left;
+  meant = next-meant g old before part.bytes inside part.is;
 })
 
-pub is-not_given : (told after : Told) (pending pending_after : Pending) (faults faults_now : ℕ) (before : Restorer) (number : ℕ) (stop : Stop) → before.ended ≡ false → before.number < length before.records.items → number ≡ before.number
-    → NotGiven told after pending pending_after faults faults_now before.pkg before.len (record_at before before.number) (content_place before.outline (record_at before before.number)) before.target stop
-    → IsNotGiven told after pending pending_after faults faults_now before (numbered number stop)
-is-not_given told after pending pending_after faults faults_now before number (File why) running inside is stopped = record {
+pub is-not_given : {S : Type 0} (g : Ghosts S) (old new : S) (before : Restorer) (number : ℕ) (why : Stop) → before.ended ≡ false → before.number < length before.records.items → number ≡ before.number
+    → NotGiven g old new (asked_at before before.number) why → IsNotGiven g old new before (numbered number why)
+is-not_given g old new before number (stop.File why) running inside is stopped = record {
   next = record { running = running; next = is; within = inside };
   files = stopped.0.files;
   unsealed = stopped.0.unsealed;
-  ends = next-fault told before why inside stopped.1;
+  ends = next-fault g old before why inside stopped.1;
 }
-is-not_given told after pending pending_after faults faults_now before number InTheWay running inside is stopped = record {
+is-not_given g old new before number stop.InTheWay running inside is stopped = record {
   next = record { running = running; next = is; within = inside };
-  there = subst (λ n. HasFileIn told before.target n) (sym (next-named before)) stopped.there;
+  there = subst (λ n. HasFileIn (g.files old) before.target n) (sym (next-named before)) stopped.there;
   files = stopped.left.files;
   unsealed = stopped.left.unsealed;
   bytes = stopped.bytes;
-  meant = next-meant told before stopped.bytes inside stopped.is;
+  meant = next-meant g old before stopped.bytes inside stopped.is;
 }
-is-not_given told after pending pending_after faults faults_now before number (Changed was now) running inside is stopped = record {
+is-not_given g old new before number (stop.Changed was now) running inside is stopped = record {
   fewer = stopped.0;
   untold = λ known fits. stopped.2 known fits.len;
   files = stopped.1.files;
   unsealed = stopped.1.unsealed;
 }
-is-not_given told after pending pending_after faults faults_now before number Failed running inside is stopped = (stopped.0, left-next told after pending pending_after before inside stopped.1)
-is-not_given told after pending pending_after faults faults_now before number NoMemory running inside is stopped = left-next told after pending pending_after before inside stopped
+is-not_given g old new before number stop.Failed running inside is stopped = (stopped.0, left-next g old new before inside stopped.1)
+is-not_given g old new before number stop.NoMemory running inside is stopped = left-next g old new before inside stopped
 
 -- ---- the package stays
 
@@ -204,22 +200,19 @@ stays-given : (told after : Told) (pkg name bytes : List ℕ) (target : Option (
 stays-given told after pkg name bytes None there free is = stays-same told after pkg there is
 stays-given told after pkg name bytes (Some dir) there free is = stays-beside told after pkg (full_name dir name) bytes there free is
 
-pub stays : (told after : Told) (pending pending_after : Pending) (pkg : List ℕ) (len : ℕ) (said : FileRecord) (found : Option Content) (target : Option (List ℕ)) (length_given : ℕ) → HasFile told pkg
-    → IsContentGiven told after pending pending_after pkg len said found target length_given → Stays told after pkg
-stays told after pending pending_after pkg len said found target length_given there given = stays-given told after pkg said.name given.bytes target there given.free given.files
+pub stays : {S : Type 0} (g : Ghosts S) (old new : S) (asked : Asked) (len : ℕ) → Has g old asked.pkg → IsContentGiven g old new asked len → Stays (g.files old) (g.files new) asked.pkg
+stays g old new asked len there given = stays-given (g.files old) (g.files new) asked.pkg asked.name given.bytes asked.target there given.free given.files
 
-stays-left : (told after : Told) (pending pending_after : Pending) (pkg : List ℕ) (len : ℕ) (said : FileRecord) (found : Option Content) (target : Option (List ℕ)) → HasFile told pkg
-    → LeavesContent told after pending pending_after pkg len said found target → Stays told after pkg
-stays-left told after pending pending_after pkg len said found target there (inl nothing) = stays-same told after pkg there nothing.files
-stays-left told after pending pending_after pkg len said found target there (inr part) = stays-beside told after pkg _ _ there part.left.free part.left.files
+stays-left : {S : Type 0} (g : Ghosts S) (old new : S) (asked : Asked) → Has g old asked.pkg → LeavesContent g old new asked → Stays (g.files old) (g.files new) asked.pkg
+stays-left g old new asked there (inl nothing) = stays-same (g.files old) (g.files new) asked.pkg there nothing.files
+stays-left g old new asked there (inr part) = stays-beside (g.files old) (g.files new) asked.pkg _ _ there part.left.free part.left.files
 
-pub stays-stopped : (told after : Told) (pending pending_after : Pending) (faults faults_now : ℕ) (pkg : List ℕ) (len : ℕ) (said : FileRecord) (found : Option Content) (target : Option (List ℕ)) (stop : Stop) → HasFile told pkg
-    → NotGiven told after pending pending_after faults faults_now pkg len said found target stop → Stays told after pkg
-stays-stopped told after pending pending_after faults faults_now pkg len said found target (File why) there stopped = stays-same told after pkg there stopped.0.files
-stays-stopped told after pending pending_after faults faults_now pkg len said found target InTheWay there stopped = stays-same told after pkg there stopped.left.files
-stays-stopped told after pending pending_after faults faults_now pkg len said found target (Changed was now) there stopped = stays-same told after pkg there stopped.1.files
-stays-stopped told after pending pending_after faults faults_now pkg len said found target Failed there stopped = stays-left told after pending pending_after pkg len said found target there stopped.1
-stays-stopped told after pending pending_after faults faults_now pkg len said found target NoMemory there stopped = stays-left told after pending pending_after pkg len said found target there stopped
+pub stays-stopped : {S : Type 0} (g : Ghosts S) (old new : S) (asked : Asked) (why : Stop) → Has g old asked.pkg → NotGiven g old new asked why → Stays (g.files old) (g.files new) asked.pkg
+stays-stopped g old new asked (stop.File why) there stopped = stays-same (g.files old) (g.files new) asked.pkg there stopped.0.files
+stays-stopped g old new asked stop.InTheWay there stopped = stays-same (g.files old) (g.files new) asked.pkg there stopped.left.files
+stays-stopped g old new asked (stop.Changed was now) there stopped = stays-same (g.files old) (g.files new) asked.pkg there stopped.1.files
+stays-stopped g old new asked stop.Failed there stopped = stays-left g old new asked there stopped.1
+stays-stopped g old new asked stop.NoMemory there stopped = stays-left g old new asked there stopped
 
 -- ---- the giving of a record's file
 
@@ -228,18 +221,10 @@ at-any [] k d e inside = absurd (omega arith)
 at-any (x ∷ xs) zero d e inside = refl
 at-any (x ∷ xs) (suc k) d e inside = at-any xs k d e (omega arith)
 
-pub given-same : (result : Result ℕ Stop) (told after : Told) (pending pending_after : Pending) (pkg package_name : List ℕ) (len : ℕ) (said record_said : FileRecord) (found place : Option Content) (target root : Option (List ℕ)) → pkg ≡ package_name → said ≡ record_said → found ≡ place → target ≡ root
-    → IfOk result (IsContentGiven told after pending pending_after pkg len said found target) → IfOk result (IsContentGiven told after pending pending_after package_name len record_said place root)
-given-same result told after pending pending_after pkg package_name len said record_said found place target root a b c d given =
-    subst (λ t. IfOk result (IsContentGiven told after pending pending_after package_name len record_said place t)) d
-    (subst (λ f. IfOk result (IsContentGiven told after pending pending_after package_name len record_said f target)) c
-    (subst (λ s. IfOk result (IsContentGiven told after pending pending_after package_name len s found target)) b
-    (subst (λ p. IfOk result (IsContentGiven told after pending pending_after p len said found target)) a given)))
-
-pub stopped-same : (result : Result ℕ Stop) (told after : Told) (pending pending_after : Pending) (faults faults_now : ℕ) (pkg package_name : List ℕ) (len : ℕ) (said record_said : FileRecord) (found place : Option Content) (target root : Option (List ℕ)) → pkg ≡ package_name → said ≡ record_said → found ≡ place → target ≡ root
-    → IfErr result (NotGiven told after pending pending_after faults faults_now pkg len said found target) → IfErr result (NotGiven told after pending pending_after faults faults_now package_name len record_said place root)
-stopped-same result told after pending pending_after faults faults_now pkg package_name len said record_said found place target root a b c d stopped =
-    subst (λ t. IfErr result (NotGiven told after pending pending_after faults faults_now package_name len record_said place t)) d
-    (subst (λ f. IfErr result (NotGiven told after pending pending_after faults faults_now package_name len record_said f target)) c
-    (subst (λ s. IfErr result (NotGiven told after pending pending_after faults faults_now package_name len s found target)) b
-    (subst (λ p. IfErr result (NotGiven told after pending pending_after faults faults_now p len said found target)) a stopped)))
+-- the file of a record, by the place of its content
+pub asked-there : (pkg : List ℕ) (said : FileRecord) (place : Option Content) (target : Option (List ℕ)) (restorer : Restorer) (number : ℕ) → pkg ≡ restorer.pkg → said ≡ record_at restorer number → place ≡ content_place restorer.outline (record_at restorer number) → target ≡ restorer.target
+    → asked_there pkg restorer.len said place target ≡ asked_at restorer number
+asked-there pkg said place target restorer number named is there aimed = λ i. record { pkg = named i; len = restorer.len; name = (is i).name; target = aimed i; meant = λ bytes. same bytes i }
+  where
+    same : (bytes : List ℕ) → content_found said bytes place ≡ content_meant restorer.outline bytes (record_at restorer number)
+    same bytes = (λ i. content_found (is i) bytes (there i)) ∙ found-is restorer.outline bytes (record_at restorer number)

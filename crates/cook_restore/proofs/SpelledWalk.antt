@@ -1,5 +1,5 @@
 -- A walk over elements that are spelled one after the other.
-use Rattle.std.proofs.Common.{◌≡◌, ℕ, ◌+◌, ◌-◌, ◌^◌, ◌<◌, ◌≤◌, nat_le, ◌==◌, true, false, List, [], ◌∷◌, ◌++◌, length, take, drop, Some, None, Ok, refl, sym, ap, ◌∙◌, arith, append_assoc, length-append}
+use Rattle.std.proofs.Common.{◌≡◌, ℕ, ◌+◌, ◌-◌, ◌^◌, ◌<◌, ◌≤◌, nat_le, ◌==◌, true, List, [], ◌∷◌, ◌++◌, length, take, drop, Some, Ok, refl, sym, ap, ◌∙◌, arith, append_assoc, length-append}
 use Rattle.std.proofs.Math.Seq.{drop-append_seam, take-append-add, take-append_seam}
 use Rattle.std.proofs.lemmas.Bool.{le-leb}
 use Rattle.std.proofs.lemmas.Bool.Decides.{nat_tests}
@@ -15,16 +15,13 @@ use Rattle.cook_restore.specs.declared.matroska_read.parts.Element.{Element}
 use Rattle.cook_restore.specs.declared.matroska_read.files.FileAt.{FileAt}
 use Rattle.cook_restore.specs.Identifiers.{ebml_header, segment, attachments, attached_file}
 use Rattle.cook_restore.specs.Outline.{visit_header, header_read, header_of, file_read, visit_attachments, attachments_visited, visit_segment, segment_read, outline_of}
-use Rattle.shelf_reader.specs.Readings.{gives, fails, looks, thence_of, thence}
-use Rattle.shelf_reader.specs.Seen.{between}
+use Rattle.shelf_reader.specs.Readings.{gives, looks, thence_of, thence}
 use Rattle.shelf_reader.specs.Walk.{walked}
 use Rattle.shelf_reader.proofs.WalkLaws.{GoesOn, onward}
 use Rattle.shelf_reader.proofs.WalkLaws as walks
 use Rattle.cook_restore.specs.Outline.{Visits, attachments_seen, no_doc_type, nothing_seen, outline_in}
 use Rattle.cook_restore.specs.Walk.{content_of, head_in, sized, element_of, element_in, segment_sized, segment_of, segment_in, ebml, walked_children}
 use Rattle.cook_restore.specs.WalkGoesOn.{element_goes_on}
-use Rattle.cook_restore.specs.declared.matroska_read.parts.HeaderSeen.{HeaderSeen}
-use Rattle.cook_restore.specs.declared.matroska_read.parts.SegmentSeen.{SegmentSeen}
 
 pub same_id : (a b : ℕ) → a ≡ b → (a == b) ≡ true
 same_id a b e = grind (arith, nat_tests)

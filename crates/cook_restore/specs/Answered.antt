@@ -1,9 +1,12 @@
 -- The answer of an outline, by what its shelf tells.
-use Rattle.std.specs.Prelude.{◌≡◌, ℕ, ◌<◌, Result, Ok, Err}
+use Rattle.std.specs.Prelude.{◌≡◌, ℕ, ◌<◌, List, length, Result, Ok, Err}
 use Rattle.shelf_core.specs.Causes.{Rose}
+use Rattle.shelf_core.specs.Reads.{Tells, bytes_of}
 use Rattle.shelf_core.specs.declared.shelf.Shelf.{Ghosts}
 use Rattle.shelf_reader.specs.declared.error.ReadError.{ReadError}
 use Rattle.shelf_reader.specs.declared.error.ReadError.TheVariants as errors
+use Rattle.cook_restore.specs.Outline.{outline_of}
+use Rattle.cook_restore.specs.declared.matroska_read.files.FileAt.{FileAt}
 use Rattle.cook_restore.specs.declared.matroska_read.error.OutlineFault.{OutlineFault}
 use Rattle.cook_restore.specs.declared.matroska_read.error.OutlineFault.TheVariants as faults
 use Rattle.cook_restore.specs.declared.matroska_read.error.OutlineError.{OutlineError}
@@ -32,3 +35,11 @@ StopsFor len faults faults_now NoMemory = Unit {0}
 
 abbrev pub OutlineStops : {S : Type 0} → Ghosts S → ℕ → S → S → OutlineError → Type 0
 OutlineStops g len old new = StopsFor len (g.faults old) (g.faults new)
+
+-- the outline is the definition's, where the shelf tells the file and it has so many bytes
+abbrev pub OutlinesOn : {S : Type 0} → Ghosts S → S → List ℕ → ℕ → List FileAt → Type 0
+OutlinesOn g shelf name len files = Tells g shelf → len ≡ length (bytes_of g shelf name) → outline_of (bytes_of g shelf name) ≡ Ok files
+
+-- and so is a refusal
+abbrev pub RefusesOn : {S : Type 0} → Ghosts S → S → List ℕ → ℕ → OutlineError → Type 0
+RefusesOn g shelf name len error = Tells g shelf → len ≡ length (bytes_of g shelf name) → IsRefusal (outline_of (bytes_of g shelf name)) error

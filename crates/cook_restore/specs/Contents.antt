@@ -1,5 +1,9 @@
 -- Where the content of each record's file stands in the package, as a restorer keeps it.
-use Rattle.std.specs.Prelude.{ℕ, ◌+◌, ◌≤◌, List, take, drop, map, Option, Some, None, Result, Err}
+use Rattle.std.specs.Prelude.{◌≡◌, ℕ, ◌+◌, ◌≤◌, List, take, drop, map, Option, Some, None, Result, Err}
+use Rattle.std.specs.BTreeMap.{BTreeMap, get_by}
+use Rattle.std.specs.Cmp.Lexicographic.{slice_cmp}
+use Rattle.std.specs.Ordering.{nat_cmp}
+use denote.Ref.{Bor}
 use Rattle.reversal.specs.declared.record.FileRecord.{FileRecord}
 use Rattle.cook_restore.specs.declared.matroska_read.files.FileAt.{FileAt}
 use Rattle.cook_restore.specs.declared.contents.Content.{Content}
@@ -14,6 +18,14 @@ place_of file = record { at = file.at; len = file.len }
 unfoldable pub place_or : Option Content → Option FileAt → Option Content
 place_or other None = other
 place_or other (Some file) = Some (place_of file)
+
+-- the place that a map holds under a name
+abbrev pub held_as : BTreeMap (Bor (List ℕ)) Content → List ℕ → Option Content
+held_as by_name name = get_by (λ k. slice_cmp nat_cmp name k.now) by_name
+
+-- a map holds the places of files by their names, and where no file has the name, what another holds
+abbrev pub HoldsOver : (List ℕ → Option Content) → List FileAt → (List ℕ → Option Content) → Type 0
+HoldsOver before files now = (name : List ℕ) → now name ≡ place_or (before name) (attached_as name files)
 
 -- the place of the content of a record's file
 unfoldable pub content_place : List FileAt → FileRecord → Option Content

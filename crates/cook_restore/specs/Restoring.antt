@@ -3,8 +3,10 @@ use Rattle.std.specs.Prelude.{◌≡◌, ◌⊎◌, ℕ, ◌+◌, ◌<◌, ◌�
 use Rattle.std.specs.List.{slice_index_or as get_or}
 use Rattle.cook_bits.specs.Names.{full_name}
 use Rattle.shelf_core.specs.Causes.{Rose}
+use Rattle.shelf_core.specs.Reads.{Tells, Failed, bytes_of}
 use Rattle.shelf_core.specs.Leaves.{LeavesNothing, LeavesPart}
 use Rattle.shelf_core.specs.Told.{Told, IsTold, HasFile, IsFree, Pending, content, no_file, with_file}
+use Rattle.shelf_core.specs.declared.shelf.Shelf.{Ghosts}
 use Rattle.shelf_core.specs.declared.shelf.ShelfError.{ShelfError}
 use Rattle.shelf_core.specs.declared.shelf.ShelfError.TheVariants as shelf
 use Rattle.shelf_core.specs.declared.pieces.PieceError.{PieceError}
@@ -75,6 +77,30 @@ IsNotOpened told pkg faults faults_now (unopened.Changed name was now) = (name �
 IsNotOpened told pkg faults faults_now unopened.Failed = Rose faults faults_now
 IsNotOpened told pkg faults faults_now unopened.NoMemory = Unit {0}
 
+-- the same, of a shelf as it was and as it is
+abbrev pub StopsOpening : {S : Type 0} → Ghosts S → S → S → List ℕ → RestoreError → Type 0
+StopsOpening g old new pkg = IsNotOpened (g.files old) pkg (g.faults old) (g.faults new)
+
+-- a restorer before its first file, by what a shelf tells
+abbrev pub OpensOn : {S : Type 0} → Ghosts S → S → List ℕ → Option (List ℕ) → Restorer → Type 0
+OpensOn g shelf pkg target = IsOpened (g.files shelf) pkg target
+
+-- the length of a file, where the shelf tells it
+abbrev pub IsLenOf : {S : Type 0} → Ghosts S → S → List ℕ → ℕ → Type 0
+IsLenOf g shelf name len = Tells g shelf → len ≡ length (bytes_of g shelf name)
+
+-- the outline of a package, where the shelf tells it
+abbrev pub IsOutlineOf : {S : Type 0} → Ghosts S → S → List ℕ → List FileAt → Type 0
+IsOutlineOf g shelf pkg files = Tells g shelf → outline_of (bytes_of g shelf pkg) ≡ Ok files
+
+-- the bytes of an attached file
+abbrev pub AreBytesOf : {S : Type 0} → Ghosts S → S → List ℕ → FileAt → List ℕ → Type 0
+AreBytesOf g shelf pkg file bytes = Tells g shelf → bytes ≡ bytes_at file (bytes_of g shelf pkg)
+
+-- the records of its side data
+abbrev pub AreRecordsOf : {S : Type 0} → Ghosts S → S → List ℕ → List FileAt → List FileRecord → Type 0
+AreRecordsOf g shelf pkg files records = Tells g shelf → AreSideRecords files (bytes_of g shelf pkg) records
+
 -- a shelf's error as that of an opening
 abbrev pub restore_error : ShelfError → RestoreError
 restore_error shelf.Failed = unopened.Failed
@@ -110,6 +136,10 @@ NotRecorded side.NoMemory unopened.NoMemory = Unit {0}
 NotRecorded error answer = ⊥
 
 -- ---- a file that is given
+
+-- a package has the bytes that it had
+abbrev pub KeepsBytes : {S : Type 0} → Ghosts S → S → S → List ℕ → Type 0
+KeepsBytes g old new pkg = Tells g old → bytes_of g new pkg ≡ bytes_of g old pkg
 
 -- what a restorer keeps whatever it answers
 pub record KeepsPackage (before after : Restorer) : Type 0 where
@@ -193,9 +223,9 @@ pub record IsThrough (told after : Told) (pending pending_after : Pending) (befo
   pub unsealed : pending_after ≡ pending
   pub whole : before.ended ≡ false → IsEndWhereTold told before None
 
-abbrev pub GivesNext : Told → Told → Pending → Pending → Restorer → Restorer → Option FileSum → Type 0
-GivesNext told after pending pending_after before restorer None = IsThrough told after pending pending_after before restorer
-GivesNext told after pending pending_after before restorer (Some sum) = IsGiven told after pending pending_after before restorer sum
+abbrev pub GivesNext : {S : Type 0} → Ghosts S → S → S → Restorer → Restorer → Option FileSum → Type 0
+GivesNext g old new before restorer None = IsThrough (g.files old) (g.files new) (g.unsealed old) (g.unsealed new) before restorer
+GivesNext g old new before restorer (Some sum) = IsGiven (g.files old) (g.files new) (g.unsealed old) (g.unsealed new) before restorer sum
 
 -- the meaning ends at the next file, and nothing was changed
 pub record IsFaulty (told after : Told) (pending pending_after : Pending) (before : Restorer) (number : ℕ) (why : FileWhy) : Type 0 where
@@ -232,12 +262,12 @@ abbrev pub LeavesNext : Told → Told → Pending → Pending → Restorer → T
 LeavesNext told after pending pending_after before = LeavesNothing told after pending pending_after ⊎ IsGivenPartly told after pending pending_after before
 
 -- Why a file was not given, and what stands then.
-abbrev pub IsNotGiven : Told → Told → Pending → Pending → ℕ → ℕ → Restorer → FileError → Type 0
-IsNotGiven told after pending pending_after faults faults_now before (ungiven.File number why) = IsFaulty told after pending pending_after before number why
-IsNotGiven told after pending pending_after faults faults_now before (ungiven.InTheWay number) = IsInTheWay told after pending pending_after before number
-IsNotGiven told after pending pending_after faults faults_now before (ungiven.Changed was now) = IsChanged told after pending pending_after before was now
-IsNotGiven told after pending pending_after faults faults_now before ungiven.Failed = Rose faults faults_now × LeavesNext told after pending pending_after before
-IsNotGiven told after pending pending_after faults faults_now before ungiven.NoMemory = LeavesNext told after pending pending_after before
+abbrev pub IsNotGiven : {S : Type 0} → Ghosts S → S → S → Restorer → FileError → Type 0
+IsNotGiven g old new before (ungiven.File number why) = IsFaulty (g.files old) (g.files new) (g.unsealed old) (g.unsealed new) before number why
+IsNotGiven g old new before (ungiven.InTheWay number) = IsInTheWay (g.files old) (g.files new) (g.unsealed old) (g.unsealed new) before number
+IsNotGiven g old new before (ungiven.Changed was now) = IsChanged (g.files old) (g.files new) (g.unsealed old) (g.unsealed new) before was now
+IsNotGiven g old new before ungiven.Failed = Failed g old new × LeavesNext (g.files old) (g.files new) (g.unsealed old) (g.unsealed new) before
+IsNotGiven g old new before ungiven.NoMemory = LeavesNext (g.files old) (g.files new) (g.unsealed old) (g.unsealed new) before
 
 -- after a refusal a restorer has ended before the same file, which was left to be given
 pub record IsEnded (before restorer : Restorer) : Type 0 where

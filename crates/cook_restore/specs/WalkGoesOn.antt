@@ -1,5 +1,5 @@
 -- By the grammar of elements, each ends behind its place, where its parent does or before.
-use Rattle.std.specs.Prelude.{◌≡◌, ℕ, ◌+◌, ◌-◌, ◌<◌, ◌≤◌, nat_le, Bool, true, false, ◌&&◌, List, [], ◌∷◌, length, drop, Option, Some, None, Result, Ok, Err, refl}
+use Rattle.std.specs.Prelude.{◌≡◌, ℕ, ◌+◌, ◌<◌, ◌≤◌, nat_le, Bool, true, false, ◌&&◌, List, [], ◌∷◌, length, drop, Option, Some, None, Result, Ok, refl}
 use Rattle.std.proofs.Common.{sym, ap, cond, arith}
 use Rattle.std.proofs.lemmas.Bool.{leb-true}
 use Rattle.ebml_core.specs.Reading.{width_of, vint_len, id_at, id_of_len, size_at, head_at, head_of_id, head_of_size}

@@ -1,11 +1,8 @@
 // Where the contents of the files stand in a package, by the names that the side data says.
-ghost use Rattle.std.specs.Prelude.{◌≡◌, List, ℕ, None, IfOk, OnOk};
+ghost use Rattle.std.specs.Prelude.{◌≡◌, None, IfOk, OnOk};
 ghost use Rattle.std.specs.List.{position};
-ghost use Rattle.std.specs.BTreeMap as tree;
-ghost use Rattle.std.specs.Cmp.Lexicographic.{slice_cmp};
-ghost use Rattle.std.specs.Ordering.{nat_cmp};
-ghost use Rattle.cook_restore.specs.Contents.{content_places, place_or};
-ghost use Rattle.cook_restore.specs.Meaning.{attached_as, others_of};
+ghost use Rattle.cook_restore.specs.Contents.{HoldsOver, content_places, held_as};
+ghost use Rattle.cook_restore.specs.Meaning.{others_of};
 
 use crate::FileAt;
 use cook_bits::NoMemory;
@@ -32,7 +29,7 @@ fn add_names<'a>(
     by_name: &mut BTreeMap<&'a [u8], Content>,
     files: &'a [FileAt],
 ) -> Result<(), NoMemory>
-    ensures { OnOk result ((name : List ℕ) → tree.get_by (λ k. slice_cmp nat_cmp name k.now) by_name.new ≡ place_or (tree.get_by (λ k. slice_cmp nat_cmp name k.now) by_name.old) (attached_as name files.now)) }
+    ensures { OnOk result (HoldsOver (held_as by_name.old) files.now (held_as by_name.new)) }
 {
     let mut left = files.len();
     while left > 0 {
@@ -49,7 +46,7 @@ fn add_names<'a>(
 
 // The files but the side data, by their names.
 fn by_names<'a>(alloc: Global, files: &'a [FileAt]) -> Result<BTreeMap<&'a [u8], Content>, NoMemory>
-    ensures { IfOk result (λ by_name. (name : List ℕ) → tree.get_by (λ k. slice_cmp nat_cmp name k.now) by_name ≡ place_or None (attached_as name (others_of files.now))) }
+    ensures { IfOk result (λ by_name. HoldsOver (λ name. None) (others_of files.now) (held_as by_name)) }
 {
     let mut by_name = BTreeMap::new(alloc);
     let side = side_number(files).unwrap_or(files.len());

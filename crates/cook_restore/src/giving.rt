@@ -1,10 +1,8 @@
 // A file is given back: its content is checked whole, then written in the target, and sealed.
 ghost use Rattle.std.specs.Prelude.{◌≡◌, ◌+◌, ◌<◌, ◌≤◌, ◌^◌, length, Some, IfOk, IfErr, OnOk, OnErr, IfSome};
-ghost use Rattle.shelf_core.specs.Causes.{HasCause};
-ghost use Rattle.shelf_core.specs.Reads.{OnlyReads};
-ghost use Rattle.shelf_core.specs.Told.{HasFile, IsFree, content, with_file};
+ghost use Rattle.shelf_core.specs.Reads.{CountsStay, Has, Differ, IsUnsealed, OnlyReads, Caused};
 ghost use Rattle.cook_restore.specs.Contents.{PlaceEndsBy};
-ghost use Rattle.cook_restore.specs.Giving.{IsChecked, NotChecked, NotWritten, IsContentGiven, NotGiven, bytes_told, target_of};
+ghost use Rattle.cook_restore.specs.Giving.{AddsContent, IsChecked, IsHeld, NotChecked, NotAdded, NotWritten, WritesContent, IsContentGiven, NotGiven, asked_of};
 
 use crate::FileWhy;
 use crate::contents::Content;
@@ -35,27 +33,27 @@ pub struct Task<'a> {
     pub before: &'a str,
 }
 
-// Checks the content of a file: it is attached, and of the length and the sum that its record says.
-
+// Checks the content of a file: it is attached, and of the length and the sum that its record says. One that fits the
+// buffer is left at its front.
 fn checked_content<S: Shelf>(
     shelf: &mut S,
     pkg: Package<'_>,
-    said: &FileRecord,
-    content: Option<Content>,
+    task: Task<'_>,
     buffer: &mut [u8],
 ) -> Result<Content, Stop>
-    requires there { HasFile (S.files shelf.old) pkg.name.now }
-    requires ends { IfSome content (PlaceEndsBy pkg.len) }
+    requires there { Has S.Shelf shelf.old pkg.name.now }
+    requires ends { IfSome task.content (PlaceEndsBy pkg.len) }
     requires room { 0 < length buffer.old }
-    ensures same { IfOk result (λ found. content ≡ Some found) }
-    ensures checked { IfOk result (IsChecked (S.files shelf.old) pkg.entry.name.now said.now) }
-    ensures stopped { IfErr result (NotChecked (S.files shelf.old) pkg.entry.name.now pkg.entry.len said.now content (S.faults shelf.old) (S.faults shelf.new)) }
+    ensures same { IfOk result (λ found. task.entry.content ≡ Some found) }
+    ensures checked { IfOk result (IsChecked S.Shelf shelf.old pkg.entry.name.now task.entry.said.now) }
+    ensures held { IfOk result (λ found. IsHeld S.Shelf shelf.old pkg.entry.name.now found buffer.new) }
+    ensures stopped { IfErr result (NotChecked S.Shelf shelf.old shelf.new (asked_of pkg.entry task.entry)) }
     ensures kept { OnlyReads S.Shelf shelf.old shelf.new }
 {
-    let Some(content) = content else {
+    let Some(content) = task.content else {
         return Err(Stop::File(FileWhy::Missing));
     };
-    if content.len != said.length {
+    if content.len != task.said.length {
         return Err(Stop::File(FileWhy::Length));
     }
     let part = Part {
@@ -64,7 +62,7 @@ fn checked_content<S: Shelf>(
         len: content.len,
     };
     match sum_part(shelf, part, buffer) {
-        Ok(sum) if sum == said.md5 => Ok(content),
+        Ok(sum) if sum == task.said.md5 => Ok(content),
         Ok(_) => Err(Stop::File(FileWhy::Sum)),
         Err(error) => Err(Stop::of_piece(pkg.len, error)),
     }
@@ -79,9 +77,8 @@ fn common_front(text: &str, other: &str) -> usize {
 // Makes the folders in which a file of this full name is to stand, the shorter first. Those whose names end within the
 // first `known` bytes are there already.
 fn make_folders<S: Shelf>(shelf: &mut S, full: &str, known: usize) -> Result<(), ShelfError>
-    ensures files { S.files shelf.new ≡ S.files shelf.old }
-    ensures unsealed { S.unsealed shelf.new ≡ S.unsealed shelf.old }
-    ensures cause { HasCause ShelfError.Failed ShelfError.NoMemory (S.faults shelf.old) (S.faults shelf.new) (S.starved shelf.old) (S.starved shelf.new) result }
+    ensures kept { OnlyReads S.Shelf shelf.old shelf.new }
+    ensures cause { Caused S.Shelf ShelfError.Failed ShelfError.NoMemory shelf.old shelf.new result }
 {
     let bytes = full.as_bytes();
     for at in known..bytes.len() {
@@ -94,7 +91,45 @@ fn make_folders<S: Shelf>(shelf: &mut S, full: &str, known: usize) -> Result<(),
     Ok(())
 }
 
-// Writes a checked content as a new file, and seals it. Other bytes at this second reading are a fault of the file.
+// Adds a checked content to the end of a file: from the buffer where it is held there, and else by reading it again. Other
+// bytes at this second reading are a fault of the file.
+#[tactic(auto, using(shelf_core::proofs::FileLaws::file_laws))]
+fn add_content<S: Shelf>(
+    shelf: &mut S,
+    pkg: Package<'_>,
+    said: &FileRecord,
+    content: Content,
+    to: &str,
+    buffer: &mut [u8],
+) -> Result<(), Stop>
+    requires there { Has S.Shelf shelf.old pkg.name.now }
+    requires target { Has S.Shelf shelf.old to.now }
+    requires open { IsUnsealed S.Shelf shelf.old to.now }
+    requires apart { Differ S.Shelf shelf.old pkg.name.now to.now }
+    requires ends { PlaceEndsBy pkg.len content }
+    requires checked { IsChecked S.Shelf shelf.old pkg.name.now said.now content }
+    requires held { IsHeld S.Shelf shelf.old pkg.name.now content buffer.old }
+    requires room { 0 < length buffer.old }
+    ensures added { OnOk result (AddsContent S.Shelf shelf.old shelf.new pkg.entry.name.now content to.now) }
+    ensures stopped { IfErr result (NotAdded S.Shelf shelf.old shelf.new pkg.entry.name.now content to.now) }
+{
+    if content.len <= buffer.len() as u64 {
+        shelf.append(to, &buffer[..content.len as usize])?;
+        return Ok(());
+    }
+    let part = Part {
+        name: pkg.name,
+        at: content.at,
+        len: content.len,
+    };
+    match copy_part(shelf, part, to, buffer) {
+        Ok(sum) if sum == said.md5 => Ok(()),
+        Ok(_) => Err(Stop::File(FileWhy::Sum)),
+        Err(error) => Err(Stop::of_piece(pkg.len, error)),
+    }
+}
+
+// Writes a checked content as a new file, and seals it.
 #[tactic(auto, using(shelf_core::proofs::FileLaws::file_laws))]
 fn write_content<S: Shelf>(
     shelf: &mut S,
@@ -104,34 +139,23 @@ fn write_content<S: Shelf>(
     to: &str,
     buffer: &mut [u8],
 ) -> Result<(), Stop>
-    requires there { HasFile (S.files shelf.old) pkg.name.now }
+    requires there { Has S.Shelf shelf.old pkg.name.now }
     requires ends { PlaceEndsBy pkg.len content }
-    requires checked { IsChecked (S.files shelf.old) pkg.name.now said.now content }
+    requires checked { IsChecked S.Shelf shelf.old pkg.name.now said.now content }
+    requires held { IsHeld S.Shelf shelf.old pkg.name.now content buffer.old }
     requires room { 0 < length buffer.old }
-    ensures free { OnOk result (IsFree (S.files shelf.old) to.now) }
-    ensures written { OnOk result (S.files shelf.new ≡ with_file (S.files shelf.old) to.now (bytes_told (S.files shelf.old) pkg.entry.name.now content)) }
-    ensures sealed { OnOk result (S.unsealed shelf.new ≡ S.unsealed shelf.old) }
-    ensures stopped { IfErr result (NotWritten (S.files shelf.old) (S.files shelf.new) (S.unsealed shelf.old) (S.unsealed shelf.new) (S.faults shelf.old) (S.faults shelf.new) to.now (bytes_told (S.files shelf.old) pkg.entry.name.now content)) }
-    ensures kept { S.faults shelf.old ≤ S.faults shelf.new }
+    ensures written { OnOk result (WritesContent S.Shelf shelf.old shelf.new pkg.entry.name.now content to.now) }
+    ensures stopped { IfErr result (NotWritten S.Shelf shelf.old shelf.new pkg.entry.name.now content to.now) }
+    ensures counts { CountsStay S.Shelf shelf.old shelf.new }
 {
     shelf.create(to)?;
-    let part = Part {
-        name: pkg.name,
-        at: content.at,
-        len: content.len,
-    };
-    match copy_part(shelf, part, to, buffer) {
-        Ok(sum) if sum == said.md5 => {}
-        Ok(_) => return Err(Stop::File(FileWhy::Sum)),
-        Err(error) => return Err(Stop::of_piece(pkg.len, error)),
-    }
+    add_content(shelf, pkg, said, content, to, buffer)?;
     shelf.seal(to)?;
     Ok(())
 }
 
 /// Gives a file: checks its content whole, then writes it under the target, if there is one, and seals it. Answers the
 /// length of the content in bytes.
-
 pub fn give<S: Shelf>(
     alloc: Global,
     shelf: &mut S,
@@ -139,14 +163,14 @@ pub fn give<S: Shelf>(
     task: Task<'_>,
     buffer: &mut [u8],
 ) -> Result<u64, Stop>
-    requires there { HasFile (S.files shelf.old) pkg.name.now }
+    requires there { Has S.Shelf shelf.old pkg.name.now }
     requires ends { IfSome task.content (PlaceEndsBy pkg.len) }
     requires room { 0 < length buffer.old }
-    ensures given { IfOk result (IsContentGiven (S.files shelf.old) (S.files shelf.new) (S.unsealed shelf.old) (S.unsealed shelf.new) pkg.entry.name.now pkg.entry.len task.entry.said.now task.entry.content (target_of task.entry)) }
-    ensures stopped { IfErr result (NotGiven (S.files shelf.old) (S.files shelf.new) (S.unsealed shelf.old) (S.unsealed shelf.new) (S.faults shelf.old) (S.faults shelf.new) pkg.entry.name.now pkg.entry.len task.entry.said.now task.entry.content (target_of task.entry)) }
-    ensures kept { S.faults shelf.old ≤ S.faults shelf.new }
+    ensures given { IfOk result (IsContentGiven S.Shelf shelf.old shelf.new (asked_of pkg.entry task.entry)) }
+    ensures stopped { IfErr result (NotGiven S.Shelf shelf.old shelf.new (asked_of pkg.entry task.entry)) }
+    ensures counts { CountsStay S.Shelf shelf.old shelf.new }
 {
-    let content = checked_content(shelf, pkg, task.said, task.content, buffer)?;
+    let content = checked_content(shelf, pkg, task, buffer)?;
     if let Some(dir) = task.target {
         let name = task.said.name.as_str();
         let full = full_name(alloc, dir, name)?;

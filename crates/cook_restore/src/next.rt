@@ -1,10 +1,9 @@
 // The files of an open package, one by one.
 ghost use Rattle.std.specs.Prelude.{◌≡◌, ◌≤◌, ◌<◌, length, IfOk, IfErr, OnErr};
 ghost use Rattle.std.specs.Option.{option_map};
-ghost use Rattle.shelf_core.specs.Told.{IsTold, HasFile, content};
-ghost use Rattle.cook_restore.specs.Contents.{content_place};
-ghost use Rattle.cook_restore.specs.Giving.{IsContentGiven, NotGiven};
-ghost use Rattle.cook_restore.specs.Restoring.{KeepsPackage, GivesNext, IsNotGiven, IsEnded, record_at};
+ghost use Rattle.shelf_core.specs.Reads.{CountsStay, Has};
+ghost use Rattle.cook_restore.specs.Giving.{IsContentGiven, NotGiven, asked_at};
+ghost use Rattle.cook_restore.specs.Restoring.{KeepsBytes, KeepsPackage, GivesNext, IsNotGiven, IsEnded};
 
 use crate::giving::{Package, Task, give};
 use crate::stop::Stop;
@@ -36,7 +35,8 @@ fn name_before(records: &[FileRecord], number: usize) -> &str
 
 impl Restorer {
     /// Gives the next file. Its content is read whole and checked by its length and its MD5, and only then its file is
-    /// created in the target, written from a second reading, and sealed. Before that the folders of its name are made.
+    /// created in the target, written, and sealed. A content that doesn't fit the buffer is read a second time for that. Before
+    /// the file is created the folders of its name are made.
     ///
     /// The answer is `None` where all files were given or an earlier call was refused. `File` comes where the meaning of the
     /// package ends with this file's fault, `InTheWay` where a file of its full name is there, `Changed` where the package
@@ -47,14 +47,14 @@ impl Restorer {
         alloc: Global,
         shelf: &mut S,
     ) -> Result<Option<FileSum>, FileError>
-        requires there { HasFile (S.files shelf.old) self.old.pkg }
-        ensures given { IfOk result (GivesNext (S.files shelf.old) (S.files shelf.new) (S.unsealed shelf.old) (S.unsealed shelf.new) self.old self.new) }
-        ensures stopped { IfErr result (IsNotGiven (S.files shelf.old) (S.files shelf.new) (S.unsealed shelf.old) (S.unsealed shelf.new) (S.faults shelf.old) (S.faults shelf.new) self.old) }
+        requires there { Has S.Shelf shelf.old self.old.pkg }
+        ensures given { IfOk result (GivesNext S.Shelf shelf.old shelf.new self.old self.new) }
+        ensures stopped { IfErr result (IsNotGiven S.Shelf shelf.old shelf.new self.old) }
         ensures ended { OnErr result (IsEnded self.old self.new) }
         ensures kept { KeepsPackage self.old self.new }
-        ensures stays { IsTold (S.files shelf.old) → content (S.files shelf.new) self.old.pkg ≡ content (S.files shelf.old) self.old.pkg }
-        ensures still_there { HasFile (S.files shelf.new) self.old.pkg }
-        ensures faults { S.faults shelf.old ≤ S.faults shelf.new }
+        ensures stays { KeepsBytes S.Shelf shelf.old shelf.new self.old.pkg }
+        ensures still_there { Has S.Shelf shelf.new self.old.pkg }
+        ensures counts { CountsStay S.Shelf shelf.old shelf.new }
     {
         let number = self.number as usize;
         if self.ended || number >= self.records.len() {
@@ -84,12 +84,12 @@ impl Restorer {
         number: usize,
     ) -> Result<u64, Stop>
         requires inside { number < length self.old.records.items }
-        requires there { HasFile (S.files shelf.old) self.old.pkg }
-        ensures given { IfOk result (IsContentGiven (S.files shelf.old) (S.files shelf.new) (S.unsealed shelf.old) (S.unsealed shelf.new) self.old.pkg self.old.len (record_at self.old number) (content_place self.old.outline (record_at self.old number)) self.old.target) }
-        ensures stopped { IfErr result (NotGiven (S.files shelf.old) (S.files shelf.new) (S.unsealed shelf.old) (S.unsealed shelf.new) (S.faults shelf.old) (S.faults shelf.new) self.old.pkg self.old.len (record_at self.old number) (content_place self.old.outline (record_at self.old number)) self.old.target) }
+        requires there { Has S.Shelf shelf.old self.old.pkg }
+        ensures given { IfOk result (IsContentGiven S.Shelf shelf.old shelf.new (asked_at self.old number)) }
+        ensures stopped { IfErr result (NotGiven S.Shelf shelf.old shelf.new (asked_at self.old number)) }
         ensures kept { KeepsPackage self.old self.new }
         ensures same { (self.new.number ≡ self.old.number) × (self.new.ended ≡ self.old.ended) }
-        ensures faults { S.faults shelf.old ≤ S.faults shelf.new }
+        ensures counts { CountsStay S.Shelf shelf.old shelf.new }
     {
         let package = Package {
             name: self.pkg.as_str(),

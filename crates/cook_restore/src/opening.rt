@@ -1,12 +1,9 @@
 // A package is opened: its length, its outline, its side data, and where the contents of its files stand.
-ghost use Rattle.std.specs.Prelude.{◌≡◌, ◌+◌, ◌<◌, ◌≤◌, ◌^◌, length, IfOk, IfErr, OnOk, Ok as Good};
+ghost use Rattle.std.specs.Prelude.{◌≡◌, ◌+◌, ◌<◌, ◌≤◌, ◌^◌, length, IfOk, IfErr, OnOk};
 ghost use Rattle.std.specs.Option.{option_map};
-ghost use Rattle.shelf_core.specs.Reads.{OnlyReads};
-ghost use Rattle.shelf_core.specs.Told.{IsTold, HasFile, content};
+ghost use Rattle.shelf_core.specs.Reads.{OnlyReads, Has};
 ghost use Rattle.cook_restore.specs.Inside.{AllEndBy};
-ghost use Rattle.cook_restore.specs.Meaning.{bytes_at};
-ghost use Rattle.cook_restore.specs.Outline.{outline_of};
-ghost use Rattle.cook_restore.specs.Restoring.{AreSideRecords, IsNotOpened, IsOpened, NotOutlined, NotRead, NotRecorded, IsMissing};
+ghost use Rattle.cook_restore.specs.Restoring.{AreBytesOf, AreRecordsOf, IsOutlineOf, StopsOpening, OpensOn, IsLenOf, NotOutlined, NotRead, NotRecorded, IsMissing};
 
 use crate::contents::{contents_of, side_number};
 use crate::{FileAt, Outline, OutlineError, PackageWhy, RestoreError, Restorer, outline};
@@ -15,8 +12,8 @@ use reversal::{FileRecord, SideError};
 use shelf_core::{PieceError, Shelf, read_piece};
 use std::alloc::Global;
 
-/// How many bytes of a content are held at once.
-const ROOM: usize = 1 << 20;
+/// How many bytes of a content are held at once, at most.
+const ROOM: u64 = 16 << 20;
 
 // A package isn't there.
 fn missing(alloc: Global, pkg: &str) -> RestoreError
@@ -71,9 +68,9 @@ fn not_recorded(error: SideError) -> RestoreError
 
 // The length of a package that is there.
 fn package_len<S: Shelf>(alloc: Global, shelf: &mut S, pkg: &str) -> Result<u64, RestoreError>
-    ensures there { OnOk result (HasFile (S.files shelf.old) pkg.now) }
-    ensures len { IfOk result (λ len. IsTold (S.files shelf.old) → len ≡ length (content (S.files shelf.old) pkg.now)) }
-    ensures stopped { IfErr result (IsNotOpened (S.files shelf.old) pkg.now (S.faults shelf.old) (S.faults shelf.new)) }
+    ensures there { OnOk result (Has S.Shelf shelf.old pkg.now) }
+    ensures len { IfOk result (IsLenOf S.Shelf shelf.old pkg.now) }
+    ensures stopped { IfErr result (StopsOpening S.Shelf shelf.old shelf.new pkg.now) }
     ensures kept { OnlyReads S.Shelf shelf.old shelf.new }
 {
     match shelf.len(pkg)? {
@@ -89,11 +86,11 @@ fn package_outline<S: Shelf>(
     pkg: &str,
     len: u64,
 ) -> Result<Outline, RestoreError>
-    requires there { HasFile (S.files shelf.old) pkg.now }
-    requires len { IsTold (S.files shelf.old) → len ≡ length (content (S.files shelf.old) pkg.now) }
-    ensures outline { IfOk result (λ files. IsTold (S.files shelf.old) → outline_of (content (S.files shelf.old) pkg.now) ≡ Good files) }
+    requires there { Has S.Shelf shelf.old pkg.now }
+    requires len { IsLenOf S.Shelf shelf.old pkg.now len }
+    ensures outline { IfOk result (IsOutlineOf S.Shelf shelf.old pkg.now) }
     ensures within { IfOk result (AllEndBy len) }
-    ensures stopped { IfErr result (IsNotOpened (S.files shelf.old) pkg.now (S.faults shelf.old) (S.faults shelf.new)) }
+    ensures stopped { IfErr result (StopsOpening S.Shelf shelf.old shelf.new pkg.now) }
     ensures kept { OnlyReads S.Shelf shelf.old shelf.new }
 {
     match outline(alloc, shelf, pkg, len) {
@@ -110,11 +107,11 @@ fn attached_bytes<S: Shelf>(
     len: u64,
     file: &FileAt,
 ) -> Result<Vec<u8>, RestoreError>
-    requires there { HasFile (S.files shelf.old) pkg.now }
-    requires len { IsTold (S.files shelf.old) → len ≡ length (content (S.files shelf.old) pkg.now) }
+    requires there { Has S.Shelf shelf.old pkg.now }
+    requires len { IsLenOf S.Shelf shelf.old pkg.now len }
     requires ends { file.now.at + file.now.len ≤ len }
-    ensures bytes { IfOk result (λ bytes. IsTold (S.files shelf.old) → bytes.items ≡ bytes_at file.now (content (S.files shelf.old) pkg.now)) }
-    ensures stopped { IfErr result (IsNotOpened (S.files shelf.old) pkg.now (S.faults shelf.old) (S.faults shelf.new)) }
+    ensures bytes { IfOk result (λ bytes. AreBytesOf S.Shelf shelf.old pkg.now file.now bytes.items) }
+    ensures stopped { IfErr result (StopsOpening S.Shelf shelf.old shelf.new pkg.now) }
     ensures kept { OnlyReads S.Shelf shelf.old shelf.new }
 {
     let mut bytes = Vec::new(alloc);
@@ -133,13 +130,13 @@ fn package_records<S: Shelf>(
     len: u64,
     files: &[FileAt],
 ) -> Result<Vec<FileRecord>, RestoreError>
-    requires there { HasFile (S.files shelf.old) pkg.now }
-    requires len { IsTold (S.files shelf.old) → len ≡ length (content (S.files shelf.old) pkg.now) }
-    requires outline { IsTold (S.files shelf.old) → outline_of (content (S.files shelf.old) pkg.now) ≡ Good files.now }
+    requires there { Has S.Shelf shelf.old pkg.now }
+    requires len { IsLenOf S.Shelf shelf.old pkg.now len }
+    requires outline { IsOutlineOf S.Shelf shelf.old pkg.now files.now }
     requires within { AllEndBy len files.now }
-    ensures records { IfOk result (λ records. IsTold (S.files shelf.old) → AreSideRecords files.now (content (S.files shelf.old) pkg.now) records.items) }
+    ensures records { IfOk result (λ records. AreRecordsOf S.Shelf shelf.old pkg.now files.now records.items) }
     ensures few { IfOk result (λ records. length records.items < 2 ^ 32) }
-    ensures stopped { IfErr result (IsNotOpened (S.files shelf.old) pkg.now (S.faults shelf.old) (S.faults shelf.new)) }
+    ensures stopped { IfErr result (StopsOpening S.Shelf shelf.old shelf.new pkg.now) }
     ensures kept { OnlyReads S.Shelf shelf.old shelf.new }
 {
     let Some(number) = side_number(files) else {
@@ -150,6 +147,14 @@ fn package_records<S: Shelf>(
         Ok(records) => Ok(records),
         Err(error) => Err(not_recorded(error)),
     }
+}
+
+// How many bytes are held at once: as many as the largest file has, up to `ROOM`, and at least one.
+fn room_for(records: &[FileRecord]) -> usize
+    ensures { 0 < result }
+{
+    let largest = records.iter().map(|said| said.length).max().unwrap_or(0);
+    largest.min(ROOM).max(1) as usize
 }
 
 // A buffer of so many bytes.
@@ -184,8 +189,8 @@ pub fn open_package<S: Shelf>(
     workers: u32,
 ) -> Result<Restorer, RestoreError>
     requires workers { (1 ≤ workers) × (workers ≤ 64) }
-    ensures opened { IfOk result (IsOpened (S.files shelf.old) pkg.now (option_map (λ name. name.now) target.entry)) }
-    ensures stopped { IfErr result (IsNotOpened (S.files shelf.old) pkg.now (S.faults shelf.old) (S.faults shelf.new)) }
+    ensures opened { IfOk result (OpensOn S.Shelf shelf.old pkg.now (option_map (λ name. name.now) target.entry)) }
+    ensures stopped { IfErr result (StopsOpening S.Shelf shelf.old shelf.new pkg.now) }
     ensures kept { OnlyReads S.Shelf shelf.old shelf.new }
 {
     let _ = workers;
@@ -193,6 +198,7 @@ pub fn open_package<S: Shelf>(
     let outline = package_outline(alloc, shelf, pkg, len)?;
     let records = package_records(alloc, shelf, pkg, len, outline.files())?;
     let contents = contents_of(alloc, outline.files(), &records)?;
+    let room = room_for(records.as_slice());
     Ok(Restorer {
         pkg: Name::copy(alloc, pkg)?,
         len,
@@ -202,6 +208,6 @@ pub fn open_package<S: Shelf>(
         target: target_name(alloc, target)?,
         number: 0,
         ended: false,
-        buffer: buffer_of(alloc, ROOM)?,
+        buffer: buffer_of(alloc, room)?,
     })
 }

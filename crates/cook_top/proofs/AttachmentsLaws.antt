@@ -10,8 +10,8 @@ use Rattle.ebml_core.specs.Element.{element}
 use Rattle.reversal.specs.SideData.{HasSum, names_of, side_data_len, side_data_of}
 use Rattle.reversal.proofs.Lengths.{length_is}
 use Rattle.cook_pack.specs.Pieces.{attached_file}
-use Rattle.cook_pack.specs.Package.{attached_from, attachments_of, record_of}
-use Rattle.cook_pack.proofs.PlannedLaws.{short_name}
+use Rattle.cook_pack.specs.Package.{attached_from, attachments_of, other_record}
+use Rattle.cook_pack.proofs.PlannedLaws.{others-all, short_name}
 use Rattle.cook_restore.specs.declared.matroska_read.parts.Element.{Element}
 use Rattle.cook_restore.specs.declared.matroska_read.files.FileAt.{FileAt}
 use Rattle.shelf_reader.specs.Walk.{walked}
@@ -46,7 +46,7 @@ length-attached_from-le uid (file ∷ files) small =
     let adds : sum_by content_len (file ∷ files) ≡ length file.1 + sum_by content_len files = sum_by-cons content_len file files in
     omega (arith, small.0.name, length-append (attached_file file.0 false uid file.1) (attached_from (uid + 1) files), length-attached_file-le file.0 false uid file.1, length-attached_from-le (uid + 1) files small.1)
 
-pub names-recorded : (directory : List File) → names_of (map record_of directory) ≡ file_names directory
+pub names-recorded : (directory : List File) → names_of (map other_record directory) ≡ file_names directory
 names-recorded [] = refl
 names-recorded (file ∷ files) = ap (λ rest. file.0 ∷ rest) (names-recorded files)
 
@@ -64,12 +64,12 @@ side_data_len-le names relative =
     let adds : sum_by named_len names ≤ length names * 1051 = sum_by-le named_len 1051 names (All-from_recursion (λ name. named_len name ≤ 1051) names (short_names names relative)) in
     omega (arith, adds)
 
-pub length-side_data-le : (directory : List File) → All IsRelativeName (file_names directory) → length (side_data_of (map record_of directory)) ≤ 12 + length directory * 1051
+pub length-side_data-le : (directory : List File) → All IsRelativeName (file_names directory) → length (side_data_of (map other_record directory)) ≤ 12 + length directory * 1051
 length-side_data-le directory relative =
-    let summed : All HasSum (map record_of directory) = All-map HasSum record_of directory (λ k d h. length-md5 _) in
+    let summed : All HasSum (map other_record directory) = All-map HasSum other_record directory (λ k d h. length-md5 _) in
     let count : length (file_names directory) ≡ length directory = length-map directory (λ (file : File). file.0) in
     let most = side_data_len-le (file_names directory) (recursion_from_All IsRelativeName _ relative) in
-    omega (arith, length_is (map record_of directory) summed, ap side_data_len (names-recorded directory))
+    omega (arith, length_is (map other_record directory) summed, ap side_data_len (names-recorded directory))
 
 -- ---- the files
 
@@ -116,44 +116,53 @@ pub record AreSeen (bytes : List ℕ) (element : Element) (directory : List File
   pub side : FileAt
   pub walk : walked_children visit_attachments element [] bytes ≡ Ok (files ++ side ∷ [])
   pub are_files : AreAttached bytes directory files
-  pub is_side : IsAttached bytes (codes "cook.rev") true (side_data_of (map record_of directory)) side
+  pub is_side : IsAttached bytes (codes "cook.rev") true (side_data_of (map other_record directory)) side
 
 side_content : List File → List ℕ
-side_content directory = attached_content (codes "cook.rev") true (length (map record_of directory) + 1) (side_data_of (map record_of directory))
+side_content directory = attached_content (codes "cook.rev") true (length directory + 1) (side_data_of (map other_record directory))
+
+-- at this stage each file is attached as it is
+with_side : (directory others : List File) → List ℕ
+with_side directory others = attached_from 1 others ++ attached_file (codes "cook.rev") true (length others + 1) (side_data_of (map other_record directory))
+
+attachments-flat : (directory : List File) → attachments_of directory ≡ with_side directory directory
+unfolding attachments_of with_side
+attachments-flat directory = ap (with_side directory) (others-all directory)
 
 attachments-are : (directory : List File) → attachments_of directory ≡ attached_from 1 directory ++ element 0x61A7 (side_content directory)
-unfolding attachments_of attached_file side_content
-attachments-are directory = refl
+unfolding with_side attached_file side_content
+attachments-are directory = attachments-flat directory
 
 length-side_content-le : (directory : List File) → Keeps directory → length (side_content directory) ≤ 1051000100
 unfolding side_content
 length-side_content-le directory keeps =
     let count : length (codes "cook.rev") ≡ 8 = refl in
-    omega (arith, keeps.few, length-side_data-le directory keeps.relative, length-attached_content-le (codes "cook.rev") true (length (map record_of directory) + 1) (side_data_of (map record_of directory)))
+    omega (arith, keeps.few, length-side_data-le directory keeps.relative, length-attached_content-le (codes "cook.rev") true (length directory + 1) (side_data_of (map other_record directory)))
 
 pub small_files : (directory : List File) → Keeps directory → AllByRecursion IsSmall directory
 unfolding content_len
 small_files directory keeps = are_small directory (recursion_from_All IsRelativeName _ keeps.relative) keeps.small
 
 pub length-attachments-le : (directory : List File) → Keeps directory → length (attachments_of directory) ≤ 2 ^ 51
-unfolding attachments_of content_len
+unfolding with_side content_len
 length-attachments-le directory keeps =
     let count : length (codes "cook.rev") ≡ 8 = refl in
     omega (
       arith,
+      ap length (attachments-flat directory),
       keeps.few,
       keeps.small,
       length-attached_from-le 1 directory (small_files directory keeps),
       length-side_data-le directory keeps.relative,
-      length-append (attached_from 1 directory) (attached_file (codes "cook.rev") true (length (map record_of directory) + 1) (side_data_of (map record_of directory))),
-      length-attached_file-le (codes "cook.rev") true (length (map record_of directory) + 1) (side_data_of (map record_of directory)),
+      length-append (attached_from 1 directory) (attached_file (codes "cook.rev") true (length directory + 1) (side_data_of (map other_record directory))),
+      length-attached_file-le (codes "cook.rev") true (length directory + 1) (side_data_of (map other_record directory)),
     )
 
 -- the side data, behind which the Attachments end
 record SideSeen (bytes : List ℕ) (end place : ℕ) (before : List FileAt) (directory : List File) : Type 0 where
   side : FileAt
   walk : walked ebml visit_attachments end before place bytes ≡ Ok (before ++ side ∷ [])
-  is : IsAttached bytes (codes "cook.rev") true (side_data_of (map record_of directory)) side
+  is : IsAttached bytes (codes "cook.rev") true (side_data_of (map other_record directory)) side
 
 side_seen : (bytes : List ℕ) (end place : ℕ) (before : List FileAt) (directory : List File) (rest : List ℕ) → Keeps directory → Stands bytes place (element 0x61A7 (side_content directory)) rest → end ≡ place + length (element 0x61A7 (side_content directory))
     → SideSeen bytes end place before directory
@@ -163,7 +172,7 @@ side_seen bytes end place before directory rest keeps stands is_end =
     let short = length-side_content-le directory keeps in
     let most = length-side_data-le directory keeps.relative in
     let is : IsSpelled bytes end place 0x61A7 (side_content directory) rest = record { known = refl; small = omega arith; stands = stands; within = omega arith } in
-    let read = file_read-attached bytes end place (codes "cook.rev") true (length (map record_of directory) + 1) (side_data_of (map record_of directory)) rest (omega arith) (omega (arith, keeps.few)) is in
+    let read = file_read-attached bytes end place (codes "cook.rev") true (length directory + 1) (side_data_of (map other_record directory)) rest (omega arith) (omega (arith, keeps.few)) is in
     record {
       side = read.file;
       walk = walked-file bytes end place (side_content directory) rest before read.file is read.read

@@ -1,20 +1,20 @@
 -- A package, as a reader sees it.
-use Rattle.std.proofs.Common.{◌≡◌, ℕ, ◌+◌, ◌≤◌, List, [], ◌∷◌, ◌++◌, length, Ok, refl, sym, ap, ◌∙◌, arith, append_assoc, append-nil, length-append}
+use Rattle.std.proofs.Common.{◌≡◌, ℕ, ◌+◌, ◌≤◌, List, [], ◌∷◌, ◌++◌, length, Ok, refl, sym, ap, ◌∙◌, subst, arith, append_assoc, append-nil, length-append}
 use Rattle.cook_bits.specs.Names.{File}
 use Rattle.ebml_core.specs.Element.{element, uint_bytes, byte_count, least_from}
 use Rattle.cook_pack.specs.Offence.{IsInProfile}
 use Rattle.cook_pack.specs.Pieces.{ebml_content, info_content, unknown_size, header_bytes}
-use Rattle.cook_pack.specs.Package.{attachments_of, package_bytes, package_of}
+use Rattle.cook_pack.specs.Package.{attachments_bytes, attachments_of, package_of}
+use Rattle.cook_pack.proofs.PlannedLaws.{others-all}
 use Rattle.cook_pack.proofs.PieceLaws.{short_info}
 use Rattle.cook_restore.specs.declared.matroska_read.parts.Element.{Element}
-use Rattle.cook_restore.specs.declared.matroska_read.files.FileAt.{FileAt}
 use Rattle.shelf_reader.specs.Readings.{gives}
 use Rattle.shelf_reader.specs.Walk.{walked}
 use Rattle.cook_restore.specs.declared.matroska_read.parts.SegmentSeen.{SegmentSeen}
 use Rattle.cook_restore.specs.Walk.{ebml}
 use Rattle.cook_restore.specs.Outline.{visit_segment, nothing_seen, attachments_seen}
 use Rattle.cook_restore.proofs.SpelledWalk.{walked-end, Stands, IsSpelled, spelled, behind, segment_in-unknown, walked-spelled, visit_segment-attachments, outline_of-read}
-use Rattle.cook_top.specs.RoundTrip.{ShowsDirectory}
+use Rattle.cook_top.specs.RoundTrip.{AreAttached, ShowsDirectory}
 use Rattle.cook_top.proofs.ProfileLaws.{Keeps, keeps}
 use Rattle.cook_top.proofs.AttachmentsLaws.{AreSeen, attachments_are_seen, length-attachments-le}
 use Rattle.cook_top.proofs.HeaderRead.{header_seen, segment_head}
@@ -33,9 +33,9 @@ unfolding visit_segment gives
 info_passed bytes place len = refl
 
 -- what a package is made of
-package-is : (directory : List File) → package_bytes directory ≡ element 0x1A45DFA3 ebml_content ++ (segment_piece ++ (element 0x1549A966 info_content ++ element 0x1941A469 (attachments_of directory)))
-unfolding package_bytes header_bytes
-package-is directory =
+package-is : (directory : List File) (rate : ℕ) → package_of directory rate ≡ element 0x1A45DFA3 ebml_content ++ (segment_piece ++ (element 0x1549A966 info_content ++ element 0x1941A469 (attachments_of directory)))
+unfolding package_of attachments_bytes header_bytes
+package-is directory rate =
     append_assoc (element 0x1A45DFA3 ebml_content ++ segment_piece) (element 0x1549A966 info_content) (element 0x1941A469 (attachments_of directory))
     ∙ append_assoc (element 0x1A45DFA3 ebml_content) segment_piece (element 0x1549A966 info_content ++ element 0x1941A469 (attachments_of directory))
 
@@ -53,12 +53,12 @@ record HasParts (bytes : List ℕ) (directory : List File) : Type 0 where
   info_stands : Stands bytes info (element 0x1549A966 info_content) (element 0x1941A469 (attachments_of directory))
   attachments_stand : Stands bytes attachments (element 0x1941A469 (attachments_of directory)) []
 
-has_parts : (bytes : List ℕ) (directory : List File) → bytes ≡ package_bytes directory → HasParts bytes directory
-has_parts bytes directory is =
+has_parts : (bytes : List ℕ) (directory : List File) (rate : ℕ) → bytes ≡ package_of directory rate → HasParts bytes directory
+has_parts bytes directory rate is =
     let first = element 0x1A45DFA3 ebml_content in
     let info = element 0x1549A966 info_content in
     let last = element 0x1941A469 (attachments_of directory) in
-    let begins = is ∙ package-is directory in
+    let begins = is ∙ package-is directory rate in
     let at_start : Stands bytes 0 first (segment_piece ++ (info ++ last)) = record { here = begins } in
     let second : Stands bytes (0 + length first) segment_piece (info ++ last) = record { here = behind bytes 0 first (segment_piece ++ (info ++ last)) at_start } in
     let third : Stands bytes (0 + length first + length segment_piece) info last = record { here = behind bytes (0 + length first) segment_piece (info ++ last) second } in
@@ -101,14 +101,14 @@ outline_seen bytes directory parts keeps are =
       side = are.side;
       outline = outline_of-read bytes parts.segment element_at (are.files ++ are.side ∷ []) (header_seen bytes _ parts.begins ∙ ap Ok (sym parts.header))
           (segment_in-unknown bytes (length bytes) parts.segment 12 segment_piece _ segment_head parts.segment_stands (omega (arith, parts.info_is, parts.attachments_is, parts.end_is, length-segment_piece))) refl walk;
-      are_files = are.are_files;
+      are_files = subst (λ l. AreAttached bytes l are.files) (sym (others-all directory)) are.are_files;
       is_side = are.is_side;
     }
 
 pub package_shows : (directory : List File) (rate : ℕ) → IsInProfile directory → 1 ≤ rate → rate ≤ 240 → ShowsDirectory directory (package_of directory rate)
 package_shows directory rate profile low high =
     let kept = keeps directory profile in
-    let parts = has_parts (package_bytes directory) directory refl in
-    let attached : IsSpelled (package_bytes directory) (length (package_bytes directory)) parts.attachments 0x1941A469 (attachments_of directory) [] =
+    let parts = has_parts (package_of directory rate) directory rate refl in
+    let attached : IsSpelled (package_of directory rate) (length (package_of directory rate)) parts.attachments 0x1941A469 (attachments_of directory) [] =
     record { known = refl; small = omega (arith, length-attachments-le directory kept); stands = parts.attachments_stand; within = omega (arith, parts.end_is) } in
-    outline_seen (package_bytes directory) directory parts kept (attachments_are_seen (package_bytes directory) (length (package_bytes directory)) parts.attachments directory [] kept attached)
+    outline_seen (package_of directory rate) directory parts kept (attachments_are_seen (package_of directory rate) (length (package_of directory rate)) parts.attachments directory [] kept attached)

@@ -8,9 +8,11 @@ use Rattle.std.proofs.lemmas.List.{length-map}
 use Rattle.cook_bits.specs.Names.{File}
 use Rattle.shelf_core.specs.Causes.{Rose}
 use Rattle.shelf_core.specs.Listing.{plain_entry, plain_entries}
-use Rattle.shelf_core.specs.Told.{Told, IsTold, Pending, under, with_files}
+use Rattle.shelf_core.specs.Reads.{CountsStay}
+use Rattle.shelf_core.specs.Told.{Told, IsTold, under, with_files}
 use Rattle.shelf_core.specs.Report.{Text, with_text, WrittenPartly}
 use Rattle.shelf_core.specs.declared.shelf.Entry.{Entry}
+use Rattle.shelf_core.specs.declared.shelf.Shelf.{Ghosts}
 use Rattle.shelf_core.proofs.UnderLaws.{listed-above_first}
 use Rattle.reversal.specs.SideData.{names_of}
 use Rattle.cook_restore.specs.Meaning.{Meaning, nothing_for}
@@ -22,11 +24,11 @@ use Rattle.cook_restore.specs.declared.error.FileError.{FileError}
 use Rattle.cook_restore.specs.declared.error.FileError.TheVariants as ungiven
 use Rattle.cook_restore.specs.declared.error.PackageWhy.TheVariants as broken
 use Rattle.cook_restore.specs.declared.restorer.Restorer.{Restorer}
-use Rattle.cook_top.specs.Laws.{IsShown, IsDoneOr, IsWritten, Reports, report_of, text_of}
+use Rattle.cook_top.specs.Laws.{IsShown, ShowsFor, IsDoneOr, IsWritten, Reports, report_of, text_of}
 use Rattle.cook_top.specs.Orders.{Order}
 use Rattle.cook_top.specs.Orders.Order.{Restore}
 use Rattle.cook_top.specs.RestoreLaw.{RestoreLaw, IsRestored, IsFirstUnder, meant, total_length}
-use Rattle.cook_top.specs.Restoring.{is_below, IsFirstName, IsStatusOf, IsSumOf, IsUndone}
+use Rattle.cook_top.specs.Restoring.{is_below, IsFirstName, IsStatusOf, IsSumOf, IsUndone, StopsRestoring}
 use Rattle.cook_top.specs.Statuses.{status_of_restore_error}
 use Rattle.cook_top.specs.Texts.{line_of, restore_line}
 use Rattle.cook_top.specs.declared.restore.RestoreSum.{RestoreSum}
@@ -89,33 +91,32 @@ law_unopened told after pkg dir faults faults_now unopened.NoMemory empty is sam
 name_kept : (before restorer : Restorer) (number : ℕ) → KeepsPackage before restorer → number ≡ before.number → name_at restorer number ≡ next_name before
 name_kept before restorer number kept next = λ i. get_or (names_of (kept.records i)) (next i) []
 
-pub law_ungiven : (told now after : Told) (pending pending_after : Pending) (pkg dir : List ℕ) (faults faults_now : ℕ) (before restorer : Restorer) (sum : RestoreSum) (error : FileError) (status : Status) → IsUnderWay told now pkg dir before sum
-    → IsNotGiven now after pending pending_after faults faults_now before error → KeepsPackage before restorer → IsStatusOf restorer pkg error status → RestoreLaw told after pkg dir status
-law_ungiven told now after pending pending_after pkg dir faults faults_now before restorer sum (ungiven.File number why) (PackageRefused fault) way is kept said =
-    subst (λ (f : PackageWhy). IsRestored told after pkg dir (Some f)) (sym (said ∙ ap (λ (name : List ℕ). broken.File name why) (name_kept before restorer number kept is.next.next)))
-    (restored-ends told now after pkg dir before sum (Some (broken.File (next_name before) why)) way is.files is.ends)
-law_ungiven told now after pending pending_after pkg dir faults faults_now before restorer sum (ungiven.InTheWay number) (InTheWay name) way is kept said = record {
-  first = λ known. absurd (not_in_the_way told now after pending pending_after pkg dir before sum number way is known);
-  files = untold-same told now after pkg dir before sum way is.files (not_in_the_way told now after pending pending_after pkg dir before sum number way is);
+pub law_ungiven : {S : Type 0} (g : Ghosts S) (first now after : S) (pkg dir : List ℕ) (before restorer : Restorer) (sum : RestoreSum) (error : FileError) (status : Status) → IsUnderWay (g.files first) (g.files now) pkg dir before sum
+    → IsNotGiven g now after before error → KeepsPackage before restorer → IsStatusOf restorer pkg error status → StopsRestoring g first after pkg dir status
+law_ungiven g first now after pkg dir before restorer sum (ungiven.File number why) (PackageRefused fault) way is kept said =
+    subst (λ (f : PackageWhy). IsRestored (g.files first) (g.files after) pkg dir (Some f)) (sym (said ∙ ap (λ (name : List ℕ). broken.File name why) (name_kept before restorer number kept is.next.next)))
+    (restored-ends (g.files first) (g.files now) (g.files after) pkg dir before sum (Some (broken.File (next_name before) why)) way is.files is.ends)
+law_ungiven g first now after pkg dir before restorer sum (ungiven.InTheWay number) (InTheWay name) way is kept said = record {
+  first = λ known. absurd (not_in_the_way (g.files first) (g.files now) (g.files after) (g.unsealed now) (g.unsealed after) pkg dir before sum number way is known);
+  files = untold-same (g.files first) (g.files now) (g.files after) pkg dir before sum way is.files (not_in_the_way (g.files first) (g.files now) (g.files after) (g.unsealed now) (g.unsealed after) pkg dir before sum number way is);
 }
-law_ungiven told now after pending pending_after pkg dir faults faults_now before restorer sum (ungiven.Changed was has) (Changed name had left) way is kept said =
-    λ known. is.untold (told_now told now pkg dir before sum way known) (fits_now told now pkg dir before sum way known)
-law_ungiven told now after pending pending_after pkg dir faults faults_now before restorer sum (ungiven.Changed was has) NoMemory way is kept said = nothing_more told now after pkg dir before sum way is.files
-law_ungiven told now after pending pending_after pkg dir faults faults_now before restorer sum ungiven.Failed ShelfFault way is kept said = unfinished told now after pending pending_after pkg dir before sum way is.1
-law_ungiven told now after pending pending_after pkg dir faults faults_now before restorer sum ungiven.NoMemory NoMemory way is kept said = unfinished told now after pending pending_after pkg dir before sum way is
-law_ungiven told now after pending pending_after pkg dir faults faults_now before restorer sum error status way is kept said = absurd said
+law_ungiven g first now after pkg dir before restorer sum (ungiven.Changed was has) (Changed name had left) way is kept said =
+    λ known. is.untold (told_now (g.files first) (g.files now) pkg dir before sum way known) (fits_now (g.files first) (g.files now) pkg dir before sum way known)
+law_ungiven g first now after pkg dir before restorer sum (ungiven.Changed was has) NoMemory way is kept said = nothing_more (g.files first) (g.files now) (g.files after) pkg dir before sum way is.files
+law_ungiven g first now after pkg dir before restorer sum ungiven.Failed ShelfFault way is kept said = unfinished (g.files first) (g.files now) (g.files after) (g.unsealed now) (g.unsealed after) pkg dir before sum way is.1
+law_ungiven g first now after pkg dir before restorer sum ungiven.NoMemory NoMemory way is kept said = unfinished (g.files first) (g.files now) (g.files after) (g.unsealed now) (g.unsealed after) pkg dir before sum way is
+law_ungiven g first now after pkg dir before restorer sum error status way is kept said = absurd said
 
-pub shown_ungiven : (told now after : Told) (pending pending_after : Pending) (pkg dir : List ℕ) (faults faults_then faults_now sink sink_now : ℕ) (before restorer : Restorer) (sum : RestoreSum) (error : FileError) (status : Status)
-    → IsUnderWay told now pkg dir before sum → faults ≤ faults_then → IsNotGiven now after pending pending_after faults_then faults_now before error → IsStatusOf restorer pkg error status
-    → IsShown (Some (Restore pkg dir)) told faults faults_now sink sink_now status
-shown_ungiven told now after pending pending_after pkg dir faults faults_then faults_now sink sink_now before restorer sum (ungiven.File number why) (PackageRefused fault) way fell is said = tt
-shown_ungiven told now after pending pending_after pkg dir faults faults_then faults_now sink sink_now before restorer sum (ungiven.InTheWay number) (InTheWay name) way fell is said = tt
-shown_ungiven told now after pending pending_after pkg dir faults faults_then faults_now sink sink_now before restorer sum (ungiven.Changed was has) (Changed name had left) way fell is said =
-    ((λ known. is.untold (told_now told now pkg dir before sum way known) (fits_now told now pkg dir before sum way known)), omega (arith, said.1, said.2, is.fewer))
-shown_ungiven told now after pending pending_after pkg dir faults faults_then faults_now sink sink_now before restorer sum (ungiven.Changed was has) NoMemory way fell is said = tt
-shown_ungiven told now after pending pending_after pkg dir faults faults_then faults_now sink sink_now before restorer sum ungiven.Failed ShelfFault way fell is said = let rose = is.0 in omega (arith, rose)
-shown_ungiven told now after pending pending_after pkg dir faults faults_then faults_now sink sink_now before restorer sum ungiven.NoMemory NoMemory way fell is said = tt
-shown_ungiven told now after pending pending_after pkg dir faults faults_then faults_now sink sink_now before restorer sum error status way fell is said = absurd said
+pub shown_ungiven : {S : Type 0} (g : Ghosts S) (first now after : S) (workers : ℕ) (pkg dir : List ℕ) (sink sink_now : ℕ) (before restorer : Restorer) (sum : RestoreSum) (error : FileError) (status : Status)
+    → IsUnderWay (g.files first) (g.files now) pkg dir before sum → CountsStay g first now → IsNotGiven g now after before error → IsStatusOf restorer pkg error status → ShowsFor g (Some (Restore workers pkg dir)) first after sink sink_now status
+shown_ungiven g first now after workers pkg dir sink sink_now before restorer sum (ungiven.File number why) (PackageRefused fault) way fell is said = tt
+shown_ungiven g first now after workers pkg dir sink sink_now before restorer sum (ungiven.InTheWay number) (InTheWay name) way fell is said = tt
+shown_ungiven g first now after workers pkg dir sink sink_now before restorer sum (ungiven.Changed was has) (Changed name had left) way fell is said =
+    ((λ known. is.untold (told_now (g.files first) (g.files now) pkg dir before sum way known) (fits_now (g.files first) (g.files now) pkg dir before sum way known)), omega (arith, said.1, said.2, is.fewer))
+shown_ungiven g first now after workers pkg dir sink sink_now before restorer sum (ungiven.Changed was has) NoMemory way fell is said = tt
+shown_ungiven g first now after workers pkg dir sink sink_now before restorer sum ungiven.Failed ShelfFault way fell is said = let rose = is.0 in omega (arith, rose, fell.faults)
+shown_ungiven g first now after workers pkg dir sink sink_now before restorer sum ungiven.NoMemory NoMemory way fell is said = tt
+shown_ungiven g first now after workers pkg dir sink sink_now before restorer sum error status way fell is said = absurd said
 
 -- ---- the target's faults before the others
 
@@ -147,11 +148,11 @@ reports-refused order told before after sink sink_now (Changed name was now) und
 restore_line-is : (files : List File) (sum : RestoreSum) → IsSumOf files sum → restore_line sum.files sum.bytes ≡ restore_line (length files) (total_length files)
 restore_line-is files sum is = λ i. restore_line (is.files i) (is.bytes i)
 
-pub reports-restored : (told : Told) (pkg dir : List ℕ) (fault : Type 0) (before after : Text) (sink sink_now : ℕ) (status : Status) (sum : RestoreSum) → IsDoneOr fault status → (IsTold told → IsSumOf (meant told pkg).files sum)
-    → IsWritten before after sink sink_now status (restore_line sum.files sum.bytes) → Reports before after sink sink_now status (text_of (Some (Restore pkg dir)) told status)
+pub reports-restored : (workers : ℕ) (told : Told) (pkg dir : List ℕ) (fault : Type 0) (before after : Text) (sink sink_now : ℕ) (status : Status) (sum : RestoreSum) → IsDoneOr fault status → (IsTold told → IsSumOf (meant told pkg).files sum)
+    → IsWritten before after sink sink_now status (restore_line sum.files sum.bytes) → Reports before after sink sink_now status (text_of (Some (Restore workers pkg dir)) told status)
 unfolding report_of IsTold
-reports-restored None pkg dir fault before after sink sink_now Done sum is summed written = tt
-reports-restored None pkg dir fault before after sink sink_now ReportFault sum is summed written = tt
-reports-restored (Some files) pkg dir fault before after sink sink_now Done sum is summed written = subst (IsWritten before after sink sink_now Done) (restore_line-is (meant (Some files) pkg).files sum (summed tt)) written
-reports-restored (Some files) pkg dir fault before after sink sink_now ReportFault sum is summed written = subst (IsWritten before after sink sink_now ReportFault) (restore_line-is (meant (Some files) pkg).files sum (summed tt)) written
-reports-restored told pkg dir fault before after sink sink_now status sum is summed written = absurd is
+reports-restored workers None pkg dir fault before after sink sink_now Done sum is summed written = tt
+reports-restored workers None pkg dir fault before after sink sink_now ReportFault sum is summed written = tt
+reports-restored workers (Some files) pkg dir fault before after sink sink_now Done sum is summed written = subst (IsWritten before after sink sink_now Done) (restore_line-is (meant (Some files) pkg).files sum (summed tt)) written
+reports-restored workers (Some files) pkg dir fault before after sink sink_now ReportFault sum is summed written = subst (IsWritten before after sink sink_now ReportFault) (restore_line-is (meant (Some files) pkg).files sum (summed tt)) written
+reports-restored workers told pkg dir fault before after sink sink_now status sum is summed written = absurd is

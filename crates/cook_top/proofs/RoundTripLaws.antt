@@ -17,7 +17,8 @@ use Rattle.reversal.specs.SideData.{HasShape, FitsTypes, AreNames, AreRecords, n
 use Rattle.reversal.specs.SideReading.{side_read}
 use Rattle.reversal.proofs.Round.{read_again}
 use Rattle.cook_pack.specs.Offence.{IsInProfile}
-use Rattle.cook_pack.specs.Package.{package_of, record_of}
+use Rattle.cook_pack.specs.Package.{package_of, other_record}
+use Rattle.cook_pack.proofs.PlannedLaws.{others-all}
 use Rattle.cook_restore.specs.declared.matroska_read.files.FileAt.{FileAt}
 use Rattle.cook_restore.specs.declared.error.FileWhy.{FileWhy}
 use Rattle.cook_restore.specs.Meaning.{side_of, others_of, attached_as, bytes_at, checked, content_at, content_meant, with_file_meant, files_meant, records_meant, side_meant, outline_meant, meaning_of}
@@ -82,52 +83,52 @@ all_found bytes (file ∷ directory) (attached ∷ files) are sorted =
 
 -- ---- each file is given back
 
-content_checked : (file : File) → checked (record_of file) file.1 ≡ Ok file.1
+content_checked : (file : File) → checked (other_record file) file.1 ≡ Ok file.1
 unfolding checked
 content_checked file = rw (same_id (length file.1) (length file.1) refl, same_name (md5 file.1)) refl
 
-content_given : (bytes : List ℕ) (attached files : List FileAt) (file : File) → others_of attached ≡ files → IsFound bytes files file → content_meant attached bytes (record_of file) ≡ Ok file.1
+content_given : (bytes : List ℕ) (attached files : List FileAt) (file : File) → others_of attached ≡ files → IsFound bytes files file → content_meant attached bytes (other_record file) ≡ Ok file.1
 unfolding content_meant content_at
 content_given bytes attached files file others found = rw (others, found.there, found.holds) (content_checked file)
 
 Gives : (FileRecord → Result (List ℕ) FileWhy) → File → Type 0
-Gives find file = find (record_of file) ≡ Ok file.1
+Gives find file = find (other_record file) ≡ Ok file.1
 
 all_given : (bytes : List ℕ) (attached files : List FileAt) (directory : List File) → others_of attached ≡ files → AllByRecursion (IsFound bytes files) directory → AllByRecursion (Gives (content_meant attached bytes)) directory
 unfolding Gives
 all_given bytes attached files [] others found = tt
 all_given bytes attached files (file ∷ directory) others found = (content_given bytes attached files file others found.0, all_given bytes attached files directory others found.1)
 
-files_given : (find : FileRecord → Result (List ℕ) FileWhy) (directory : List File) → AllByRecursion (Gives find) directory → files_meant find (map record_of directory) ≡ record { files = directory; end = None }
+files_given : (find : FileRecord → Result (List ℕ) FileWhy) (directory : List File) → AllByRecursion (Gives find) directory → files_meant find (map other_record directory) ≡ record { files = directory; end = None }
 unfolding files_meant with_file_meant Gives
 files_given find [] given = refl
 files_given find (file ∷ directory) given = rw (given.0, files_given find directory given.1) refl
 
 -- ---- the side data is read
 
-shapes : (directory : List File) → AllByRecursion IsSmall directory → AllByRecursion HasShape (map record_of directory)
+shapes : (directory : List File) → AllByRecursion IsSmall directory → AllByRecursion HasShape (map other_record directory)
 shapes [] small = tt
 shapes (file ∷ directory) small = (record { other = refl; no_head = refl; no_pads = refl; no_tail = refl; in_two = let short = small.0.name in omega arith }, shapes directory small.1)
 
-types : (directory : List File) → AllByRecursion IsSmall directory → AllByRecursion IsUtf8 (file_names directory) → AllByRecursion FitsTypes (map record_of directory)
+types : (directory : List File) → AllByRecursion IsSmall directory → AllByRecursion IsUtf8 (file_names directory) → AllByRecursion FitsTypes (map other_record directory)
 types [] small texts = tt
 types (file ∷ directory) small texts =
     (record { text = texts.0; in_eight = let short = small.0.content in omega arith; sixteen = length-md5 file.1 }, types directory small.1 texts.1)
 
-records_named : (directory : List File) → IsDirectory directory → Keeps directory → AreNames (names_of (map record_of directory))
+records_named : (directory : List File) → IsDirectory directory → Keeps directory → AreNames (names_of (map other_record directory))
 records_named directory is keeps =
     subst AreNames (sym (names-recorded directory)) (record { relative = keeps.relative; ascending = is.ascending; apart = keeps.apart })
 
-are_records : (directory : List File) → IsDirectory directory → Keeps directory → AreRecords (map record_of directory)
+are_records : (directory : List File) → IsDirectory directory → Keeps directory → AreRecords (map other_record directory)
 are_records directory is keeps = record {
-  few = omega (arith, keeps.few, length-map directory record_of);
+  few = omega (arith, keeps.few, length-map directory other_record);
   shaped = All-from_recursion HasShape _ (shapes directory (small_files directory keeps));
   named = records_named directory is keeps;
 }
 
-side_read_again : (directory : List File) → IsDirectory directory → Keeps directory → side_read (side_data_of (map record_of directory)) ≡ Ok (map record_of directory)
+side_read_again : (directory : List File) → IsDirectory directory → Keeps directory → side_read (side_data_of (map other_record directory)) ≡ Ok (map other_record directory)
 side_read_again directory is keeps =
-    read_again (map record_of directory) (are_records directory is keeps) (All-from_recursion FitsTypes _ (types directory (small_files directory keeps) (recursion_from_All IsUtf8 _ is.texts)))
+    read_again (map other_record directory) (are_records directory is keeps) (All-from_recursion FitsTypes _ (types directory (small_files directory keeps) (recursion_from_All IsUtf8 _ is.texts)))
 
 -- ---- the whole
 
@@ -138,10 +139,11 @@ meaning_by bytes attached side records outline of_side read = rw (outline, of_si
 shown_means : (bytes : List ℕ) (directory : List File) → IsDirectory directory → Keeps directory → ShowsDirectory directory bytes → meaning_of bytes ≡ record { files = directory; end = None }
 shown_means bytes directory is keeps shows =
     let attached = shows.files ++ shows.side ∷ [] in
-    let others = others_of-last bytes directory shows.files shows.side shows.are_files shows.is_side.typed in
+    let are : AreAttached bytes directory shows.files = subst (λ l. AreAttached bytes l shows.files) (others-all directory) shows.are_files in
+    let others = others_of-last bytes directory shows.files shows.side are shows.is_side.typed in
     let sorted = sorted_from_all_adjacent nat_list_cmp_total (file_names directory) [] (λ k h. is.ascending k [] h) in
-    meaning_by bytes attached shows.side (map record_of directory) shows.outline (side_of-last bytes directory shows.files shows.side shows.are_files shows.is_side.typed) (ap side_read shows.is_side.holds ∙ side_read_again directory is keeps)
-    ∙ files_given (content_meant attached bytes) directory (all_given bytes attached shows.files directory others (all_found bytes directory shows.files shows.are_files sorted))
+    meaning_by bytes attached shows.side (map other_record directory) shows.outline (side_of-last bytes directory shows.files shows.side are shows.is_side.typed) (ap side_read shows.is_side.holds ∙ side_read_again directory is keeps)
+    ∙ files_given (content_meant attached bytes) directory (all_given bytes attached shows.files directory others (all_found bytes directory shows.files are sorted))
 
 pub package_means : (directory : List File) (rate : ℕ) → IsDirectory directory → IsInProfile directory → 1 ≤ rate → rate ≤ 240 → meaning_of (package_of directory rate) ≡ record { files = directory; end = None }
 package_means directory rate is profile low high = shown_means (package_of directory rate) directory is (keeps directory profile) (package_shows directory rate profile low high)

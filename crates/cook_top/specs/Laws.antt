@@ -1,10 +1,14 @@
 -- What the top call promises: the answers of each order and what stands after them, what shows each answer, and what is written.
-use Rattle.std.specs.Prelude.{◌≡◌, ◌⊎◌, ℕ, ◌<◌, ◌≤◌, List, length, take, Option, Some, None}
+use Rattle.std.specs.Prelude.{◌≡◌, ◌⊎◌, ℕ, ◌<◌, List, length, Option, Some, None}
 use Rattle.shelf_core.specs.Causes.{Rose}
+use Rattle.shelf_core.specs.Reads.{Tells}
 use Rattle.shelf_core.specs.Told.{Told, IsTold, HasFile, IsFree, Pending, under, with_file}
 use Rattle.shelf_core.specs.Report.{Text, with_text, WrittenPartly}
-use Rattle.cook_pack.specs.Offence.{IsInProfile, IsOfPlainFile, offence_of_directory}
-use Rattle.cook_pack.specs.Package.{package_of}
+use Rattle.shelf_core.specs.declared.shelf.Shelf.{Ghosts}
+use Rattle.shelf_core.specs.declared.sink.Sink.{Ghosts as SinkGhosts}
+use Rattle.cook_pack.specs.Offence.{IsInProfile, offence_of_directory}
+use Rattle.cook_pack.specs.Package.{IsLeaving, package_of}
+use Rattle.cook_pack.specs.Planned.{IsOffence, directory_of}
 use Rattle.cook_pack.specs.declared.error.RefuseWhy.{RefuseWhy}
 use Rattle.cook_restore.specs.Meaning.{meaning_of}
 use Rattle.cook_top.specs.Orders.{Order}
@@ -14,63 +18,62 @@ use Rattle.cook_top.specs.Texts.{line_of, pack_line, restore_line}
 use Rattle.cook_top.specs.declared.status.Status.{Status}
 use Rattle.cook_top.specs.declared.status.Status.TheVariants.{Done, Usage, Refused, PackageRefused, InTheWay, ShelfFault, NoMemory, ReportFault, Changed, Missing}
 
--- frames a second, where no option says otherwise
-abbrev pub usual_rate : ℕ
-usual_rate = 24
-
 -- ---- the pack law
 
+-- the directory is one that pack takes, where the shelf tells it
+abbrev pub FitsProfile : {S : Type 0} → Ghosts S → S → List ℕ → Type 0
+FitsProfile g shelf dir = Tells g shelf → IsInProfile (directory_of g shelf dir)
+
 -- The directory has this offence, where the shelf tells it, and the files are as before.
-pub record IsRefused (told after : Told) (dir name : List ℕ) (why : RefuseWhy) : Type 0 where
-  pub offence : IsTold told → offence_of_directory (under told dir) ≡ Some (name, why)
-  pub plain : IsTold told → IsOfPlainFile why
-  pub files : after ≡ told
+pub record IsRefused {S : Type 0} (g : Ghosts S) (old new : S) (dir name : List ℕ) (why : RefuseWhy) : Type 0 where
+  pub offence : Tells g old → IsOffence (directory_of g old dir) name why
+  pub files : g.files new ≡ g.files old
 
 -- The directory is in the profile, the package's name is there, and the files are as before.
-pub record IsInTheWay (told after : Told) (dir pkg name : List ℕ) : Type 0 where
-  pub profile : IsTold told → IsInProfile (under told dir)
+pub record IsInTheWay {S : Type 0} (g : Ghosts S) (old new : S) (dir pkg name : List ℕ) : Type 0 where
+  pub profile : FitsProfile g old dir
   pub named : name ≡ pkg
-  pub there : HasFile told pkg
-  pub files : after ≡ told
+  pub there : HasFile (g.files old) pkg
+  pub files : g.files new ≡ g.files old
 
 -- The directory is in the profile, the package's name was free, and now has the one defined package, which means the
 -- directory: restoring it gives the directory back.
-pub record IsPacked (told after : Told) (dir pkg : List ℕ) : Type 0 where
-  pub profile : IsTold told → IsInProfile (under told dir)
-  pub free : IsFree told pkg
-  pub files : after ≡ with_file told pkg (package_of (under told dir) usual_rate)
-  pub means : IsTold told → meaning_of (package_of (under told dir) usual_rate) ≡ record { files = under told dir; end = None }
+pub record IsPacked {S : Type 0} (g : Ghosts S) (old new : S) (rate : ℕ) (dir pkg : List ℕ) : Type 0 where
+  pub profile : FitsProfile g old dir
+  pub free : IsFree (g.files old) pkg
+  pub files : g.files new ≡ with_file (g.files old) pkg (package_of (directory_of g old dir) rate)
+  pub means : Tells g old → meaning_of (package_of (directory_of g old dir) rate) ≡ record { files = directory_of g old dir; end = None }
 
--- The directory is in the profile, the package's name was free, and now has a front of the one defined package.
-pub record IsPackedPartly (told after : Told) (dir pkg : List ℕ) : Type 0 where
-  pub profile : IsTold told → IsInProfile (under told dir)
-  pub free : IsFree told pkg
-  pub count : ℕ
-  pub within : count ≤ length (package_of (under told dir) usual_rate)
-  pub files : after ≡ with_file told pkg (take count (package_of (under told dir) usual_rate))
+-- The directory is in the profile, the package's name was free, and now has what a stopped pack leaves.
+pub record IsPackedPartly {S : Type 0} (g : Ghosts S) (old new : S) (rate : ℕ) (dir pkg : List ℕ) : Type 0 where
+  pub profile : FitsProfile g old dir
+  pub free : IsFree (g.files old) pkg
+  pub bytes : List ℕ
+  pub leaving : IsLeaving (directory_of g old dir) rate bytes
+  pub files : g.files new ≡ with_file (g.files old) pkg bytes
 
 -- the files are as before, or the package stands in part
-abbrev pub IsStopped : Told → Told → List ℕ → List ℕ → Type 0
-IsStopped told after dir pkg = (after ≡ told) ⊎ IsPackedPartly told after dir pkg
+abbrev pub IsStopped : {S : Type 0} → Ghosts S → S → S → ℕ → List ℕ → List ℕ → Type 0
+IsStopped g old new rate dir pkg = (g.files new ≡ g.files old) ⊎ IsPackedPartly g old new rate dir pkg
 
--- the answers of pack, and what stands after each
-abbrev pub PackLaw : Told → Told → List ℕ → List ℕ → Status → Type 0
-PackLaw told after dir pkg Done = IsPacked told after dir pkg
-PackLaw told after dir pkg ReportFault = IsPacked told after dir pkg
-PackLaw told after dir pkg (Refused name why) = IsRefused told after dir name why
-PackLaw told after dir pkg (InTheWay name) = IsInTheWay told after dir pkg name
-PackLaw told after dir pkg ShelfFault = IsStopped told after dir pkg
-PackLaw told after dir pkg NoMemory = IsStopped told after dir pkg
-PackLaw told after dir pkg (Changed name was now) = IsTold told → ⊥
-PackLaw told after dir pkg (Missing name) = IsTold told → ⊥
-PackLaw told after dir pkg (PackageRefused why) = ⊥
-PackLaw told after dir pkg Usage = ⊥
+-- the answers of pack at a rate of frames a second, and what stands after each
+abbrev pub PackLaw : {S : Type 0} → Ghosts S → S → S → ℕ → List ℕ → List ℕ → Status → Type 0
+PackLaw g old new rate dir pkg Done = IsPacked g old new rate dir pkg
+PackLaw g old new rate dir pkg ReportFault = IsPacked g old new rate dir pkg
+PackLaw g old new rate dir pkg (Refused name why) = IsRefused g old new dir name why
+PackLaw g old new rate dir pkg (InTheWay name) = IsInTheWay g old new dir pkg name
+PackLaw g old new rate dir pkg ShelfFault = IsStopped g old new rate dir pkg
+PackLaw g old new rate dir pkg NoMemory = IsStopped g old new rate dir pkg
+PackLaw g old new rate dir pkg (Changed name was now) = Tells g old → ⊥
+PackLaw g old new rate dir pkg (Missing name) = Tells g old → ⊥
+PackLaw g old new rate dir pkg (PackageRefused why) = ⊥
+PackLaw g old new rate dir pkg Usage = ⊥
 
 -- the answers of an order; without one the files are as before
-abbrev pub ObeysOrder : Option Order → Told → Told → Status → Type 0
-ObeysOrder None told after status = after ≡ told
-ObeysOrder (Some (Pack dir pkg)) told after status = PackLaw told after dir pkg status
-ObeysOrder (Some (Restore pkg dir)) told after status = RestoreLaw told after pkg dir status
+abbrev pub ObeysOrder : {S : Type 0} → Ghosts S → S → S → Option Order → Status → Type 0
+ObeysOrder g old new None status = g.files new ≡ g.files old
+ObeysOrder g old new (Some (Pack workers rate dir pkg)) status = PackLaw g old new rate dir pkg status
+ObeysOrder g old new (Some (Restore workers pkg dir)) status = RestoreLaw (g.files old) (g.files new) pkg dir status
 
 -- what was written is sealed, but after a fault, want of memory or a file that changed
 abbrev pub KeepsUnsealed : Pending → Pending → Status → Type 0
@@ -79,11 +82,15 @@ KeepsUnsealed pending after NoMemory = Unit {0}
 KeepsUnsealed pending after (Changed name was now) = Unit {0}
 KeepsUnsealed pending after status = after ≡ pending
 
+-- over the shelf
+abbrev pub KeepsSealed : {S : Type 0} → Ghosts S → S → S → Status → Type 0
+KeepsSealed g old new status = KeepsUnsealed (g.unsealed old) (g.unsealed new) status
+
 -- ---- the cause law
 
 -- a file that isn't there: restore may find its package so, and pack only a file that a shelf lists and has not
 abbrev pub MayMiss : Option Order → Told → Type 0
-MayMiss (Some (Restore pkg dir)) told = Unit {0}
+MayMiss (Some (Restore workers pkg dir)) told = Unit {0}
 MayMiss order told = IsTold told → ⊥
 
 -- what shows an answer of an order, for every shelf: a count that rose, or lengths of a file
@@ -94,30 +101,46 @@ IsShown order told faults faults_now sink sink_now (Changed name was now) = (IsT
 IsShown order told faults faults_now sink sink_now (Missing name) = MayMiss order told
 IsShown order told faults faults_now sink sink_now status = Unit {0}
 
+-- over the shelf
+abbrev pub ShowsFor : {S : Type 0} → Ghosts S → Option Order → S → S → ℕ → ℕ → Status → Type 0
+ShowsFor g order old new sink sink_now status = IsShown order (g.files old) (g.faults old) (g.faults new) sink sink_now status
+
+-- over the shelf and the sink
+abbrev pub Shows : {S O : Type 0} → Ghosts S → SinkGhosts O → Option Order → S → S → O → O → Status → Type 0
+Shows g h order old new out out_now status = ShowsFor g order old new (h.faults out) (h.faults out_now) status
+
 -- ---- the completeness law
 
--- the one answer of each case of pack, or want of memory
-abbrev pub IsFirstAnswer : Told → List ℕ → List ℕ → Status → Type 0
-IsFirstAnswer told dir pkg (Refused name why) = offence_of_directory (under told dir) ≡ Some (name, why)
-IsFirstAnswer told dir pkg (InTheWay name) = IsInProfile (under told dir) × HasFile told pkg × (name ≡ pkg)
-IsFirstAnswer told dir pkg Done = IsInProfile (under told dir) × IsFree told pkg
-IsFirstAnswer told dir pkg NoMemory = Unit {0}
-IsFirstAnswer told dir pkg status = ⊥
+-- no count of faults of a shelf rose
+abbrev pub NeverFailed : {S : Type 0} → Ghosts S → S → S → Type 0
+NeverFailed g old new = Rose (g.faults old) (g.faults new) → ⊥
 
-abbrev pub AnswersFirst : Option Order → Told → Status → Type 0
-AnswersFirst None told status = Unit {0}
-AnswersFirst (Some (Pack dir pkg)) told status = IsFirstAnswer told dir pkg status
-AnswersFirst (Some (Restore pkg dir)) told status = RestoreFirst told pkg dir status
+-- nor one of a sink
+abbrev pub NeverRefused : {O : Type 0} → SinkGhosts O → O → O → Type 0
+NeverRefused h out out_now = Rose (h.faults out) (h.faults out_now) → ⊥
+
+-- the one answer of each case of pack, or want of memory
+abbrev pub IsFirstAnswer : {S : Type 0} → Ghosts S → S → List ℕ → List ℕ → Status → Type 0
+IsFirstAnswer g old dir pkg (Refused name why) = offence_of_directory (directory_of g old dir) ≡ Some (name, why)
+IsFirstAnswer g old dir pkg (InTheWay name) = IsInProfile (directory_of g old dir) × HasFile (g.files old) pkg × (name ≡ pkg)
+IsFirstAnswer g old dir pkg Done = IsInProfile (directory_of g old dir) × IsFree (g.files old) pkg
+IsFirstAnswer g old dir pkg NoMemory = Unit {0}
+IsFirstAnswer g old dir pkg status = ⊥
+
+abbrev pub AnswersFirst : {S : Type 0} → Ghosts S → S → Option Order → Status → Type 0
+AnswersFirst g old None status = Unit {0}
+AnswersFirst g old (Some (Pack workers rate dir pkg)) status = IsFirstAnswer g old dir pkg status
+AnswersFirst g old (Some (Restore workers pkg dir)) status = RestoreFirst (g.files old) pkg dir status
 
 -- ---- the report law
 
 -- the report of an order that was done, where the shelf tells its files
 unfoldable pub report_of : Option Order → Told → Option (List ℕ)
 report_of None told = None
-report_of (Some (Pack dir pkg)) None = None
-report_of (Some (Pack dir pkg)) (Some files) = Some (pack_line (length (under (Some files) dir)) 0 0 (length (package_of (under (Some files) dir) usual_rate)))
-report_of (Some (Restore pkg dir)) None = None
-report_of (Some (Restore pkg dir)) (Some files) = Some (restore_line (length (meant (Some files) pkg).files) (total_length (meant (Some files) pkg).files))
+report_of (Some (Pack workers rate dir pkg)) None = None
+report_of (Some (Pack workers rate dir pkg)) (Some files) = Some (pack_line (length (under (Some files) dir)) 0 0 (length (package_of (under (Some files) dir) rate)))
+report_of (Some (Restore workers pkg dir)) None = None
+report_of (Some (Restore workers pkg dir)) (Some files) = Some (restore_line (length (meant (Some files) pkg).files) (total_length (meant (Some files) pkg).files))
 
 -- the text that belongs to a status
 abbrev pub text_of : Option Order → Told → Status → Option (List ℕ)
@@ -134,6 +157,14 @@ pub record IsWritten (before after : Text) (sink sink_now : ℕ) (status : Statu
 abbrev pub Reports : Text → Text → ℕ → ℕ → Status → Option (List ℕ) → Type 0
 Reports before after sink sink_now status None = Unit {0}
 Reports before after sink sink_now status (Some text) = IsWritten before after sink sink_now status text
+
+-- over the sink
+abbrev pub Writes : {O : Type 0} → SinkGhosts O → O → O → Status → List ℕ → Type 0
+Writes h out out_now status text = IsWritten (h.written out) (h.written out_now) (h.faults out) (h.faults out_now) status text
+
+-- the text of an order's status is written
+abbrev pub ReportsOrder : {S O : Type 0} → Ghosts S → SinkGhosts O → Option Order → S → O → O → Status → Type 0
+ReportsOrder g h order old out out_now status = Reports (h.written out) (h.written out_now) (h.faults out) (h.faults out_now) status (text_of order (g.files old) status)
 
 -- the work is done, and the report was written, or a fault of the sink kept it
 abbrev pub IsDoneOr : Type 0 → Status → Type 0

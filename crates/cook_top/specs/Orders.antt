@@ -3,10 +3,19 @@ use Rattle.std.specs.Prelude.{ℕ, ◌-◌, Bool, ◌&&◌, not, List, [], ◌�
 use Rattle.std.specs.List.{list_any}
 use Rattle.cook_bits.specs.Names.{is_same_name}
 
--- to put the files under the root `dir` into the package `pkg`, or to give the files of a package back under a root
+-- to put the files under the root `dir` into the package `pkg` at a rate of frames a second, or to give the files of a
+-- package back under a root, by so many workers
 pub data Order : Type 0 where
-  Pack : (dir pkg : List ℕ) → Order
-  Restore : (pkg dir : List ℕ) → Order
+  Pack : (workers rate : ℕ) (dir pkg : List ℕ) → Order
+  Restore : (workers : ℕ) (pkg dir : List ℕ) → Order
+
+-- the workers that code or decode frames, where no option says otherwise
+abbrev pub usual_workers : ℕ
+usual_workers = 4
+
+-- frames a second, where no option says otherwise
+abbrev pub usual_rate : ℕ
+usual_rate = 24
 
 -- the first byte is a dash (byte 45)
 abbrev pub begins_with_dash : List ℕ → Bool
@@ -36,11 +45,11 @@ is_file_name word = is_name word && not (ends_with_slash word)
 
 -- a root and a package
 unfoldable pub pack_order_of : List ℕ → List ℕ → Option Order
-pack_order_of dir pkg = if is_name dir && is_file_name pkg then Some (Pack (without_end_slashes dir) pkg) else None
+pack_order_of dir pkg = if is_name dir && is_file_name pkg then Some (Pack usual_workers usual_rate (without_end_slashes dir) pkg) else None
 
 -- a package and a root
 unfoldable pub restore_order_of : List ℕ → List ℕ → Option Order
-restore_order_of pkg dir = if is_file_name pkg && is_name dir then Some (Restore pkg (without_end_slashes dir)) else None
+restore_order_of pkg dir = if is_file_name pkg && is_name dir then Some (Restore usual_workers pkg (without_end_slashes dir)) else None
 
 -- the order that a command and two words behind it are, if they are one
 unfoldable pub command_order_of : List ℕ → List ℕ → List ℕ → Option Order

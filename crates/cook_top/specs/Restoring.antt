@@ -6,14 +6,17 @@ use Rattle.std.specs.Ordering.{nat_cmp, is_lt}
 use Rattle.std.specs.Cmp.Lexicographic.{slice_cmp}
 use Rattle.cook_bits.specs.Names.{File}
 use Rattle.shelf_core.specs.Causes.{Rose}
-use Rattle.shelf_core.specs.Told.{Told, IsTold}
+use Rattle.shelf_core.specs.Reads.{Tells}
+use Rattle.shelf_core.specs.Told.{Told, IsTold, under}
+use Rattle.shelf_core.specs.declared.shelf.Shelf.{Ghosts}
 use Rattle.shelf_core.specs.declared.shelf.Entry.{Entry}
 use Rattle.cook_restore.specs.Restoring.{name_at}
 use Rattle.cook_restore.specs.declared.restorer.Restorer.{Restorer}
 use Rattle.cook_restore.specs.declared.error.FileError.{FileError}
 use Rattle.cook_restore.specs.declared.error.FileError.TheVariants as ungiven
+use Rattle.cook_restore.specs.declared.error.PackageWhy.{PackageWhy}
 use Rattle.cook_restore.specs.declared.error.PackageWhy.TheVariants as faults
-use Rattle.cook_top.specs.RestoreLaw.{IsFirstUnder, total_length}
+use Rattle.cook_top.specs.RestoreLaw.{RestoreLaw, IsRestored, IsFirstUnder, meant, total_length}
 use Rattle.cook_top.specs.declared.restore.RestoreSum.{RestoreSum}
 use Rattle.cook_top.specs.declared.status.Status.{Status}
 use Rattle.cook_top.specs.declared.status.Status.TheVariants.{Done, PackageRefused, InTheWay, ShelfFault, NoMemory, ReportFault, Changed}
@@ -74,3 +77,29 @@ IsStatusOf restorer pkg error status = ⊥
 pub record IsSumOf (given : List File) (sum : RestoreSum) : Type 0 where
   pub files : sum.files ≡ length given
   pub bytes : sum.bytes ≡ total_length given
+
+-- ---- the same over the shelf as it was and as it is
+
+-- no file stands under a root
+abbrev pub IsEmptyRoot : {S : Type 0} → Ghosts S → S → List ℕ → Type 0
+IsEmptyRoot g shelf dir = under (g.files shelf) dir ≡ []
+
+-- there is no empty target
+abbrev pub LacksTarget : {S : Type 0} → Ghosts S → S → S → List ℕ → Status → Type 0
+LacksTarget g old new dir status = IsNoTarget (g.files old) dir (g.faults old) (g.faults new) status
+
+-- the target has the files that the package means, which ends so
+abbrev pub Restored : {S : Type 0} → Ghosts S → S → S → List ℕ → List ℕ → Option PackageWhy → Type 0
+Restored g old new pkg dir last = IsRestored (g.files old) (g.files new) pkg dir last
+
+-- the sum is that of the files that the package means
+abbrev pub CountsFiles : {S : Type 0} → Ghosts S → S → List ℕ → RestoreSum → Type 0
+CountsFiles g shelf pkg sum = Tells g shelf → IsSumOf (meant (g.files shelf) pkg).files sum
+
+-- what stands after a status
+abbrev pub StopsRestoring : {S : Type 0} → Ghosts S → S → S → List ℕ → List ℕ → Status → Type 0
+StopsRestoring g old new pkg dir status = RestoreLaw (g.files old) (g.files new) pkg dir status
+
+-- each file that was written is sealed
+abbrev pub SealsAll : {S : Type 0} → Ghosts S → S → S → Type 0
+SealsAll g old new = g.unsealed new ≡ g.unsealed old

@@ -5,7 +5,7 @@ use Rattle.cook_bits.specs.Names.{File}
 use Rattle.reversal.specs.SideData.{side_data_of}
 use Rattle.cook_pack.specs.Offence.{IsInProfile}
 use Rattle.cook_pack.specs.Planned.{IsBefore}
-use Rattle.cook_pack.specs.Package.{package_of, record_of}
+use Rattle.cook_pack.specs.Package.{package_of, others_of, records_of}
 use Rattle.cook_restore.specs.Outline.{outline_of}
 use Rattle.cook_restore.specs.Meaning.{bytes_at, meaning_of}
 use Rattle.cook_restore.specs.declared.matroska_read.files.FileAt.{FileAt}
@@ -35,21 +35,23 @@ AreAttached bytes [] (attached ∷ others) = ⊥
 AreAttached bytes (file ∷ files) [] = ⊥
 AreAttached bytes (file ∷ files) (attached ∷ others) = IsAttached bytes file.0 false file.1 attached × AreAttached bytes files others
 
--- The outline of a package shows a directory: its files and then the side data of their records.
+-- The outline of a package shows a directory: the files that are attached as they are, and then the side data of all.
 pub record ShowsDirectory (directory : List File) (bytes : List ℕ) : Type 0 where
   pub files : List FileAt
   pub side : FileAt
   pub outline : outline_of bytes ≡ Ok (files ++ side ∷ [])
-  pub are_files : AreAttached bytes directory files
-  pub is_side : IsAttached bytes (codes "cook.rev") true (side_data_of (map record_of directory)) side
+  pub are_files : AreAttached bytes (others_of directory) files
+  pub is_side : IsAttached bytes (codes "cook.rev") true (side_data_of (records_of directory)) side
 
 -- the package of each directory in the profile shows it
 abbrev pub PackageShowsDirectory : Type 0
-PackageShowsDirectory = (directory : List File) (rate : ℕ) → IsInProfile directory → 1 ≤ rate → rate ≤ 240 → ShowsDirectory directory (package_of directory rate)
+PackageShowsDirectory =
+    (directory : List File) (rate : ℕ) → IsInProfile directory → 1 ≤ rate → rate ≤ 240 → ShowsDirectory directory (package_of directory rate)
 
 -- ---- what it gives back
 
 -- the package of each directory in the profile means all of its files and no fault
 abbrev pub PackageMeansDirectory : Type 0
 PackageMeansDirectory =
-    (directory : List File) (rate : ℕ) → IsDirectory directory → IsInProfile directory → 1 ≤ rate → rate ≤ 240 → meaning_of (package_of directory rate) ≡ record { files = directory; end = None }
+    (directory : List File) (rate : ℕ) → IsDirectory directory → IsInProfile directory → 1 ≤ rate → rate ≤ 240
+    → meaning_of (package_of directory rate) ≡ record { files = directory; end = None }

@@ -1,5 +1,5 @@
 -- What the types of this crate show: an order without its references, and the bytes of a piece of a report.
-use Rattle.std.specs.Prelude.{ℕ, List}
+use Rattle.std.specs.Prelude.{ℕ, ◌≤◌, List}
 use Rattle.std.specs.Fmt.{decimal}
 use Rattle.cook_top.specs.Orders.{Order}
 use Rattle.cook_top.specs.Orders.Order.{Pack, Restore}
@@ -9,8 +9,13 @@ use Rattle.cook_top.specs.declared.report.Piece.{Piece}
 use Rattle.cook_top.specs.declared.report.Piece.TheVariants.{Text, Number}
 
 abbrev pub order_shown : OrderRead → Order
-order_shown (PackRead dir pkg) = Pack dir.now pkg.now
-order_shown (RestoreRead pkg dir) = Restore pkg.now dir.now
+order_shown (PackRead workers rate dir pkg) = Pack workers rate dir.now pkg.now
+order_shown (RestoreRead workers pkg dir) = Restore workers pkg.now dir.now
+
+-- 1 to 64 workers, and 1 to 240 frames a second
+abbrev pub IsInBounds : OrderRead → Type 0
+IsInBounds (PackRead workers rate dir pkg) = (1 ≤ workers) × (workers ≤ 64) × (1 ≤ rate) × (rate ≤ 240)
+IsInBounds (RestoreRead workers pkg dir) = (1 ≤ workers) × (workers ≤ 64)
 
 abbrev pub piece_bytes : Piece → List ℕ
 piece_bytes (Text text) = text.now

@@ -1,7 +1,6 @@
-ghost use Rattle.std.specs.Prelude.{◌≡◌, ◌≤◌, OnOk, OnErr, map, codes};
+ghost use Rattle.std.specs.Prelude.{◌≡◌, OnOk, OnErr, map, codes};
 ghost use Rattle.std.specs.List.{flat_map};
-ghost use Rattle.shelf_core.specs.Causes.{Rose};
-ghost use Rattle.shelf_core.specs.Report.{with_text, WrittenPartly};
+ghost use Rattle.cook_top.specs.Printing.{FaultsRose, FaultsStay, Printed, PrintedInPart};
 ghost use Rattle.cook_top.specs.Texts.{reason_of, file_reason_of, package_line, named_line, changed_line, line_of, pack_line, restore_line};
 ghost use Rattle.cook_top.specs.Shown.{piece_bytes};
 
@@ -25,10 +24,10 @@ use Piece::{Number, Text};
 
 // Writes one piece. The digits of a number stand on the stack.
 fn write_piece<O: Sink>(out: &mut O, piece: Piece<'_>) -> Result<(), SinkFailed>
-    ensures ok { OnOk result (O.written out.new ≡ with_text (O.written out.old) (piece_bytes piece.entry)) }
-    ensures err { OnErr result (WrittenPartly (O.written out.old) (piece_bytes piece.entry) (O.written out.new)) }
-    ensures kept { O.faults out.old ≤ O.faults out.new }
-    ensures cause { OnErr result (Rose (O.faults out.old) (O.faults out.new)) }
+    ensures ok { OnOk result (Printed O.Sink out.old out.new (piece_bytes piece.entry)) }
+    ensures err { OnErr result (PrintedInPart O.Sink out.old out.new (piece_bytes piece.entry)) }
+    ensures kept { FaultsStay O.Sink out.old out.new }
+    ensures cause { OnErr result (FaultsRose O.Sink out.old out.new) }
 {
     match piece {
         Text(text) => out.write(text.as_bytes()),
@@ -42,10 +41,10 @@ fn write_piece<O: Sink>(out: &mut O, piece: Piece<'_>) -> Result<(), SinkFailed>
 // Writes pieces one after another, up to the first that fails.
 #[tactic(auto, using(shelf_core::proofs::ReportLaws::written_laws))]
 fn write_pieces<O: Sink>(out: &mut O, pieces: &[Piece<'_>]) -> Result<(), SinkFailed>
-    ensures ok { OnOk result (O.written out.new ≡ with_text (O.written out.old) (flat_map piece_bytes pieces.now)) }
-    ensures err { OnErr result (WrittenPartly (O.written out.old) (flat_map piece_bytes pieces.now) (O.written out.new)) }
-    ensures kept { O.faults out.old ≤ O.faults out.new }
-    ensures cause { OnErr result (Rose (O.faults out.old) (O.faults out.new)) }
+    ensures ok { OnOk result (Printed O.Sink out.old out.new (flat_map piece_bytes pieces.now)) }
+    ensures err { OnErr result (PrintedInPart O.Sink out.old out.new (flat_map piece_bytes pieces.now)) }
+    ensures kept { FaultsStay O.Sink out.old out.new }
+    ensures cause { OnErr result (FaultsRose O.Sink out.old out.new) }
 {
     for piece in pieces {
         write_piece(out, *piece)?;
@@ -84,10 +83,10 @@ fn file_reason(why: FileWhy) -> &'static str
 // Writes the line on the first fault of a package.
 #[tactic(auto, unfolding(crate::specs::Texts::package_line))]
 fn write_fault<O: Sink>(out: &mut O, why: &PackageWhy) -> Result<(), SinkFailed>
-    ensures ok { OnOk result (O.written out.new ≡ with_text (O.written out.old) (package_line why.now)) }
-    ensures err { OnErr result (WrittenPartly (O.written out.old) (package_line why.now) (O.written out.new)) }
-    ensures kept { O.faults out.old ≤ O.faults out.new }
-    ensures cause { OnErr result (Rose (O.faults out.old) (O.faults out.new)) }
+    ensures ok { OnOk result (Printed O.Sink out.old out.new (package_line why.now)) }
+    ensures err { OnErr result (PrintedInPart O.Sink out.old out.new (package_line why.now)) }
+    ensures kept { FaultsStay O.Sink out.old out.new }
+    ensures cause { OnErr result (FaultsRose O.Sink out.old out.new) }
 {
     match why {
         PackageWhy::Shape { place } => write_pieces(
@@ -131,10 +130,10 @@ fn write_fault<O: Sink>(out: &mut O, why: &PackageWhy) -> Result<(), SinkFailed>
 // Writes a line on a name.
 #[tactic(auto, unfolding(crate::specs::Texts::named_line))]
 fn write_named<'t, O: Sink>(out: &mut O, name: &'t str, said: &'t str) -> Result<(), SinkFailed>
-    ensures ok { OnOk result (O.written out.new ≡ with_text (O.written out.old) (named_line name.now said.now)) }
-    ensures err { OnErr result (WrittenPartly (O.written out.old) (named_line name.now said.now) (O.written out.new)) }
-    ensures kept { O.faults out.old ≤ O.faults out.new }
-    ensures cause { OnErr result (Rose (O.faults out.old) (O.faults out.new)) }
+    ensures ok { OnOk result (Printed O.Sink out.old out.new (named_line name.now said.now)) }
+    ensures err { OnErr result (PrintedInPart O.Sink out.old out.new (named_line name.now said.now)) }
+    ensures kept { FaultsStay O.Sink out.old out.new }
+    ensures cause { OnErr result (FaultsRose O.Sink out.old out.new) }
 {
     write_pieces(
         out,
@@ -151,10 +150,10 @@ fn write_named<'t, O: Sink>(out: &mut O, name: &'t str, said: &'t str) -> Result
 // Writes the line on a file that had `was` bytes and gave only `now`.
 #[tactic(auto, unfolding(crate::specs::Texts::changed_line))]
 fn write_changed<O: Sink>(out: &mut O, name: &str, was: u64, now: u64) -> Result<(), SinkFailed>
-    ensures ok { OnOk result (O.written out.new ≡ with_text (O.written out.old) (changed_line name.now was now)) }
-    ensures err { OnErr result (WrittenPartly (O.written out.old) (changed_line name.now was now) (O.written out.new)) }
-    ensures kept { O.faults out.old ≤ O.faults out.new }
-    ensures cause { OnErr result (Rose (O.faults out.old) (O.faults out.new)) }
+    ensures ok { OnOk result (Printed O.Sink out.old out.new (changed_line name.now was now)) }
+    ensures err { OnErr result (PrintedInPart O.Sink out.old out.new (changed_line name.now was now)) }
+    ensures kept { FaultsStay O.Sink out.old out.new }
+    ensures cause { OnErr result (FaultsRose O.Sink out.old out.new) }
 {
     write_pieces(
         out,
@@ -174,10 +173,10 @@ fn write_changed<O: Sink>(out: &mut O, name: &str, was: u64, now: u64) -> Result
 /// It takes no memory.
 #[tactic(auto, using(shelf_core::proofs::ReportLaws::written_laws), unfolding(crate::specs::Texts::line_of))]
 pub fn write_line<O: Sink>(out: &mut O, status: &Status) -> Result<(), SinkFailed>
-    ensures ok { OnOk result (O.written out.new ≡ with_text (O.written out.old) (line_of status.now)) }
-    ensures err { OnErr result (WrittenPartly (O.written out.old) (line_of status.now) (O.written out.new)) }
-    ensures kept { O.faults out.old ≤ O.faults out.new }
-    ensures cause { OnErr result (Rose (O.faults out.old) (O.faults out.new)) }
+    ensures ok { OnOk result (Printed O.Sink out.old out.new (line_of status.now)) }
+    ensures err { OnErr result (PrintedInPart O.Sink out.old out.new (line_of status.now)) }
+    ensures kept { FaultsStay O.Sink out.old out.new }
+    ensures cause { OnErr result (FaultsRose O.Sink out.old out.new) }
 {
     match status {
         Status::Done | Status::ReportFault => Ok(()),
@@ -202,10 +201,10 @@ pub fn write_packed<O: Sink>(
     blocks: u64,
     bytes: u64,
 ) -> Result<(), SinkFailed>
-    ensures ok { OnOk result (O.written out.new ≡ with_text (O.written out.old) (pack_line files tracks blocks bytes)) }
-    ensures err { OnErr result (WrittenPartly (O.written out.old) (pack_line files tracks blocks bytes) (O.written out.new)) }
-    ensures kept { O.faults out.old ≤ O.faults out.new }
-    ensures cause { OnErr result (Rose (O.faults out.old) (O.faults out.new)) }
+    ensures ok { OnOk result (Printed O.Sink out.old out.new (pack_line files tracks blocks bytes)) }
+    ensures err { OnErr result (PrintedInPart O.Sink out.old out.new (pack_line files tracks blocks bytes)) }
+    ensures kept { FaultsStay O.Sink out.old out.new }
+    ensures cause { OnErr result (FaultsRose O.Sink out.old out.new) }
 {
     write_pieces(
         out,
@@ -226,10 +225,10 @@ pub fn write_packed<O: Sink>(
 /// Writes the report of restore: how many files were given, and how many bytes they have. It takes no memory.
 #[tactic(auto, unfolding(crate::specs::Texts::restore_line))]
 pub fn write_restored<O: Sink>(out: &mut O, files: u64, bytes: u128) -> Result<(), SinkFailed>
-    ensures ok { OnOk result (O.written out.new ≡ with_text (O.written out.old) (restore_line files bytes)) }
-    ensures err { OnErr result (WrittenPartly (O.written out.old) (restore_line files bytes) (O.written out.new)) }
-    ensures kept { O.faults out.old ≤ O.faults out.new }
-    ensures cause { OnErr result (Rose (O.faults out.old) (O.faults out.new)) }
+    ensures ok { OnOk result (Printed O.Sink out.old out.new (restore_line files bytes)) }
+    ensures err { OnErr result (PrintedInPart O.Sink out.old out.new (restore_line files bytes)) }
+    ensures kept { FaultsStay O.Sink out.old out.new }
+    ensures cause { OnErr result (FaultsRose O.Sink out.old out.new) }
 {
     write_pieces(
         out,

@@ -1,19 +1,15 @@
 // Restoring: the files of a package, given back one by one into an empty target.
 ghost use Rattle.std.specs.Prelude.{◌≡◌, ◌≤◌, ◌<◌, ◌+◌, ◌*◌, ◌^◌, ℕ, [], length, IfOk, IfErr, OnOk, None, Some};
-ghost use Rattle.shelf_core.specs.Told.{IsTold, under};
-ghost use Rattle.cook_top.specs.Laws.{KeepsUnsealed, IsShown};
+ghost use Rattle.shelf_core.specs.Reads.{CountsStay, OnlyReads};
+ghost use Rattle.cook_top.specs.Laws.{KeepsSealed, ShowsFor};
 ghost use Rattle.cook_top.specs.Orders.Order.{Restore as OrderRestore};
-ghost use Rattle.cook_top.specs.RestoreLaw.{RestoreLaw, IsRestored, meant};
-ghost use Rattle.cook_top.specs.Restoring.{FirstName, IsFirstPlace, IsNoTarget, IsNumbered, IsStatusOf, IsSumOf, IsUndone};
+ghost use Rattle.cook_top.specs.Restoring.{CountsFiles, FirstName, IsEmptyRoot, IsFirstPlace, IsNumbered, IsStatusOf, IsUndone, LacksTarget, Restored, SealsAll, StopsRestoring};
 
 use crate::Status;
 use cook_bits::{Name, NoMemory};
 use cook_restore::{FileError, PackageWhy, Restorer, open_package};
 use shelf_core::{Entry, Shelf};
 use std::alloc::Global;
-
-/// How many workers decode frames.
-const WORKERS: u32 = 4;
 
 /// What was restored: how many files, and how many bytes they have.
 #[derive(Clone, Copy, Debug, PartialEq, Eq)]
@@ -50,11 +46,9 @@ fn first_name(mut entries: Vec<Entry>) -> Option<Name>
 
 // Makes the target, in which nothing may stand.
 fn make_target<S: Shelf>(shelf: &mut S, dir: &str) -> Result<(), Status>
-    ensures empty { OnOk result (under (S.files shelf.old) dir.now ≡ []) }
-    ensures stopped { IfErr result (IsNoTarget (S.files shelf.old) dir.now (S.faults shelf.old) (S.faults shelf.new)) }
-    ensures files { S.files shelf.new ≡ S.files shelf.old }
-    ensures unsealed { S.unsealed shelf.new ≡ S.unsealed shelf.old }
-    ensures kept { S.faults shelf.old ≤ S.faults shelf.new }
+    ensures empty { OnOk result (IsEmptyRoot S.Shelf shelf.old dir.now) }
+    ensures stopped { IfErr result (LacksTarget S.Shelf shelf.old shelf.new dir.now) }
+    ensures kept { OnlyReads S.Shelf shelf.old shelf.new }
 {
     shelf.make_folder(dir)?;
     let entries = shelf.list(dir)?;
@@ -107,20 +101,22 @@ fn with_one_more(sum: RestoreSum, length: u64) -> RestoreSum
 fn restore_files<S: Shelf>(
     alloc: Global,
     shelf: &mut S,
+    workers: u32,
     pkg: &str,
     dir: &str,
 ) -> Result<RestoreSum, Status>
-    requires empty { under (S.files shelf.old) dir.now ≡ [] }
-    ensures done { IfOk result (λ _. IsRestored (S.files shelf.old) (S.files shelf.new) pkg.now dir.now None) }
-    ensures sum { IfOk result (λ sum. IsTold (S.files shelf.old) → IsSumOf (meant (S.files shelf.old) pkg.now).files sum) }
-    ensures stopped { IfErr result (RestoreLaw (S.files shelf.old) (S.files shelf.new) pkg.now dir.now) }
+    requires workers { (1 ≤ workers) × (workers ≤ 64) }
+    requires empty { IsEmptyRoot S.Shelf shelf.old dir.now }
+    ensures done { IfOk result (λ _. Restored S.Shelf shelf.old shelf.new pkg.now dir.now None) }
+    ensures sum { IfOk result (CountsFiles S.Shelf shelf.old pkg.now) }
+    ensures stopped { IfErr result (StopsRestoring S.Shelf shelf.old shelf.new pkg.now dir.now) }
     ensures undone { IfErr result IsUndone }
-    ensures sealed { IfOk result (λ _. S.unsealed shelf.new ≡ S.unsealed shelf.old) }
-    ensures unsealed { IfErr result (KeepsUnsealed (S.unsealed shelf.old) (S.unsealed shelf.new)) }
-    ensures cause { (sink sink_now : ℕ) → IfErr result (IsShown (Some (OrderRestore pkg.now dir.now)) (S.files shelf.old) (S.faults shelf.old) (S.faults shelf.new) sink sink_now) }
-    ensures kept { S.faults shelf.old ≤ S.faults shelf.new }
+    ensures sealed { OnOk result (SealsAll S.Shelf shelf.old shelf.new) }
+    ensures unsealed { IfErr result (KeepsSealed S.Shelf shelf.old shelf.new) }
+    ensures cause { (sink sink_now : ℕ) → IfErr result (ShowsFor S.Shelf (Some (OrderRestore workers pkg.now dir.now)) shelf.old shelf.new sink sink_now) }
+    ensures counts { CountsStay S.Shelf shelf.old shelf.new }
 {
-    let mut restorer = open_package(alloc, shelf, pkg, Some(dir), WORKERS)?;
+    let mut restorer = open_package(alloc, shelf, pkg, Some(dir), workers)?;
     let mut sum = RestoreSum { files: 0, bytes: 0 };
     loop {
         match restorer.next_file(alloc, shelf) {
@@ -136,18 +132,20 @@ fn restore_files<S: Shelf>(
 pub fn restore_package<S: Shelf>(
     alloc: Global,
     shelf: &mut S,
+    workers: u32,
     pkg: &str,
     dir: &str,
 ) -> Result<RestoreSum, Status>
-    ensures done { IfOk result (λ _. IsRestored (S.files shelf.old) (S.files shelf.new) pkg.now dir.now None) }
-    ensures sum { IfOk result (λ sum. IsTold (S.files shelf.old) → IsSumOf (meant (S.files shelf.old) pkg.now).files sum) }
-    ensures stopped { IfErr result (RestoreLaw (S.files shelf.old) (S.files shelf.new) pkg.now dir.now) }
+    requires workers { (1 ≤ workers) × (workers ≤ 64) }
+    ensures done { IfOk result (λ _. Restored S.Shelf shelf.old shelf.new pkg.now dir.now None) }
+    ensures sum { IfOk result (CountsFiles S.Shelf shelf.old pkg.now) }
+    ensures stopped { IfErr result (StopsRestoring S.Shelf shelf.old shelf.new pkg.now dir.now) }
     ensures undone { IfErr result IsUndone }
-    ensures sealed { IfOk result (λ _. S.unsealed shelf.new ≡ S.unsealed shelf.old) }
-    ensures unsealed { IfErr result (KeepsUnsealed (S.unsealed shelf.old) (S.unsealed shelf.new)) }
-    ensures cause { (sink sink_now : ℕ) → IfErr result (IsShown (Some (OrderRestore pkg.now dir.now)) (S.files shelf.old) (S.faults shelf.old) (S.faults shelf.new) sink sink_now) }
-    ensures kept { S.faults shelf.old ≤ S.faults shelf.new }
+    ensures sealed { OnOk result (SealsAll S.Shelf shelf.old shelf.new) }
+    ensures unsealed { IfErr result (KeepsSealed S.Shelf shelf.old shelf.new) }
+    ensures cause { (sink sink_now : ℕ) → IfErr result (ShowsFor S.Shelf (Some (OrderRestore workers pkg.now dir.now)) shelf.old shelf.new sink sink_now) }
+    ensures counts { CountsStay S.Shelf shelf.old shelf.new }
 {
     make_target(shelf, dir)?;
-    restore_files(alloc, shelf, pkg, dir)
+    restore_files(alloc, shelf, workers, pkg, dir)
 }

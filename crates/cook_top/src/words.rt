@@ -1,19 +1,36 @@
 ghost use Rattle.std.specs.Prelude.{◌≡◌, None, Some, map, string_bytes, IfOk, OnErr};
 ghost use Rattle.cook_top.specs.Orders.{is_name, begins_with_dash, ends_with_slash, without_end_slashes, is_file_name, pack_order_of, restore_order_of, command_order_of, order_of};
-ghost use Rattle.cook_top.specs.Shown.{order_shown};
+ghost use Rattle.cook_top.specs.Shown.{IsInBounds, order_shown};
 
 use thiserror::Error;
 
 /// The most bytes of a name on the command line.
 const MOST_NAME_BYTES: usize = 4096;
 
+/// The workers that code or decode frames, where no option says otherwise.
+const USUAL_WORKERS: u32 = 4;
+
+/// Frames a second, where no option says otherwise.
+const USUAL_RATE: u32 = 24;
+
 /// What the words of a command line order.
 #[derive(Clone, Copy, Debug, PartialEq, Eq)]
 pub enum Order<'a> {
-    /// Put the files under the root `dir`, which has lost its slashes at the end, into the package `pkg`.
-    Pack { dir: &'a str, pkg: &'a str },
-    /// Give the files of the package `pkg` back under the root `dir`, which has lost its slashes at the end.
-    Restore { pkg: &'a str, dir: &'a str },
+    /// Put the files under the root `dir`, which has lost its slashes at the end, into the package `pkg`. Frames are coded
+    /// by so many workers, and shown at `rate` a second.
+    Pack {
+        workers: u32,
+        rate: u32,
+        dir: &'a str,
+        pkg: &'a str,
+    },
+    /// Give the files of the package `pkg` back under the root `dir`, which has lost its slashes at the end. Frames are
+    /// decoded by so many workers.
+    Restore {
+        workers: u32,
+        pkg: &'a str,
+        dir: &'a str,
+    },
 }
 
 /// The words are no order.
@@ -64,11 +81,14 @@ fn without_end_slashes(text: &str) -> &str
 fn pack_order<'a>(dir: &'a str, pkg: &'a str) -> Result<Order<'a>, Usage>
     ensures order { IfOk result (λ order. pack_order_of dir.now pkg.now ≡ Some (order_shown order)) }
     ensures usage { OnErr result (pack_order_of dir.now pkg.now ≡ None) }
+    ensures bounds { IfOk result IsInBounds }
 {
     if !is_name(dir) || !is_file_name(pkg) {
         return Err(Usage);
     }
     Ok(Order::Pack {
+        workers: USUAL_WORKERS,
+        rate: USUAL_RATE,
         dir: without_end_slashes(dir),
         pkg,
     })
@@ -79,11 +99,13 @@ fn pack_order<'a>(dir: &'a str, pkg: &'a str) -> Result<Order<'a>, Usage>
 fn restore_order<'a>(pkg: &'a str, dir: &'a str) -> Result<Order<'a>, Usage>
     ensures order { IfOk result (λ order. restore_order_of pkg.now dir.now ≡ Some (order_shown order)) }
     ensures usage { OnErr result (restore_order_of pkg.now dir.now ≡ None) }
+    ensures bounds { IfOk result IsInBounds }
 {
     if !is_file_name(pkg) || !is_name(dir) {
         return Err(Usage);
     }
     Ok(Order::Restore {
+        workers: USUAL_WORKERS,
         pkg,
         dir: without_end_slashes(dir),
     })
@@ -94,6 +116,7 @@ fn restore_order<'a>(pkg: &'a str, dir: &'a str) -> Result<Order<'a>, Usage>
 fn command_order<'a>(command: &str, first: &'a str, second: &'a str) -> Result<Order<'a>, Usage>
     ensures order { IfOk result (λ order. command_order_of command.now first.now second.now ≡ Some (order_shown order)) }
     ensures usage { OnErr result (command_order_of command.now first.now second.now ≡ None) }
+    ensures bounds { IfOk result IsInBounds }
 {
     if command == "pack" {
         return pack_order(first, second);
@@ -110,6 +133,7 @@ fn command_order<'a>(command: &str, first: &'a str, second: &'a str) -> Result<O
 pub fn read_words(words: &[String]) -> Result<Order<'_>, Usage>
     ensures order { IfOk result (λ order. order_of (map string_bytes words.now) ≡ Some (order_shown order)) }
     ensures usage { OnErr result (order_of (map string_bytes words.now) ≡ None) }
+    ensures bounds { IfOk result IsInBounds }
 {
     if words.len() != 3 {
         return Err(Usage);

@@ -11,4 +11,5 @@ pub mod StoreOf
 pub mod StoreTold
 pub mod Told
 pub mod Untold
+pub mod Writes
 pub use Rattle.cook_bits.specs.Names

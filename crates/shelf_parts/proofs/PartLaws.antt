@@ -1,5 +1,5 @@
 -- Laws of parts of a file that are read piece by piece. `done` is how much of the part was read.
-use Rattle.std.proofs.Common.{◌≡◌, ℕ, ◌+◌, ◌-◌, ◌≤◌, List, ◌++◌, length, take, drop, Some, None, sym, ap, ◌∙◌, arith, length-take, length-drop}
+use Rattle.std.proofs.Common.{◌≡◌, ℕ, zero, suc, ◌+◌, ◌-◌, ◌<◌, ◌≤◌, List, ◌++◌, length, take, drop, Some, None, sym, ap, ◌∙◌, arith, length-take, length-drop}
 use Rattle.std.proofs.Math.Seq.{take-length, take-nil}
 use Rattle.std.proofs.lemmas.List.{take-take, drop-drop, drop-take}
 use Rattle.shelf_core.specs.Told.{Told, IsTold, content}
@@ -28,6 +28,17 @@ length-part at len bytes inside = omega (arith, length-take len (drop at bytes),
 -- a part read to its end is the part
 pub part-all : (at len done : ℕ) (bytes : List ℕ) → done ≡ len → take done (part_of at len bytes) ≡ part_of at len bytes
 part-all at len done bytes all = ap (λ n. take n (part_of at len bytes)) all ∙ take-take len len (drop at bytes) (omega arith)
+
+-- a part that fits a buffer is one piece, which then stands at its front
+pub held-more : (at len done n : ℕ) (bytes held : List ℕ) → done + n ≤ len → done < len → (len ≤ length held → 0 < done → len ≤ done) → take n held ≡ take n (drop (at + done) bytes) → len ≤ length held
+    → take (done + n) held ≡ take (done + n) (part_of at len bytes)
+held-more at len zero n bytes held within before first read fits =
+    let same : 0 + n ≡ n = omega arith in
+    ap (λ k. take k held) same ∙ read ∙ piece-of_part at len 0 n bytes within ∙ ap (λ k. take k (part_of at len bytes)) (sym same)
+held-more at len (suc done) n bytes held within before first read fits = absurd (omega (arith, first fits (omega arith)))
+
+pub held-all : (at len done : ℕ) (bytes held : List ℕ) → done ≡ len → take done held ≡ take done (part_of at len bytes) → take len held ≡ part_of at len bytes
+held-all at len done bytes held all so_far = ap (λ n. take n held) (sym all) ∙ so_far ∙ part-all at len done bytes all
 
 -- a piece that was read whole lies in the file
 pub inside-more : (at done n : ℕ) (bytes piece : List ℕ) → length piece ≡ n → piece ≡ take n (drop (at + done) bytes) → done ≤ length bytes - at → done + n ≤ length bytes - at

@@ -1,9 +1,8 @@
-ghost use Rattle.std.specs.Prelude.{◌≡◌, ◌+◌, ◌-◌, ◌<◌, ◌≤◌, ◌^◌, length, min, take, drop, OnOk, OnErr, IfOk, IfErr};
-ghost use Rattle.shelf_core.specs.Causes.{HasCause};
+ghost use Rattle.std.specs.Prelude.{◌≡◌, ◌+◌, ◌-◌, ◌<◌, ◌≤◌, ◌^◌, length, min, OnOk, OnErr, IfOk, IfErr};
 ghost use Rattle.shelf_core.specs.Pieces.{EndsAt, EndsWithin, IsNotShort};
-ghost use Rattle.shelf_core.specs.Told.{IsTold, HasFile, IsApart, IsPending, GrewPartly, content, grown};
-ghost use Rattle.shelf_parts.specs.Parts.{part_of};
-ghost use Rattle.md5.specs.Md5.{md5};
+ghost use Rattle.shelf_core.specs.Reads.{Tells, Has, Differ, IsUnsealed, OnlyReads, Caused};
+ghost use Rattle.shelf_core.specs.Writes.{Grew, GrewInPart};
+ghost use Rattle.shelf_parts.specs.Parts.{HoldsPiece, IsHeld, IsWhole, IsWithin, Sums, part_on, file_len};
 
 use md5::{Digest, Md5};
 use shelf_core::{PieceError, Shelf, read_piece};
@@ -26,25 +25,24 @@ fn read_next<S: Shelf>(
     done: u64,
     buffer: &mut [u8],
 ) -> Result<usize, PieceError>
-    requires there { HasFile (S.files shelf.old) part.name.now }
+    requires there { Has S.Shelf shelf.old part.name.now }
     requires fits { part.at + part.len < 2 ^ 64 }
     requires left { done < part.len }
     ensures count { IfOk result (λ count. count ≡ min (part.entry.len - done) (length buffer.old)) }
-    ensures read { IfOk result (λ count. IsTold (S.files shelf.old) → take count buffer.new ≡ take count (drop (part.entry.at + done) (content (S.files shelf.old) part.entry.name.now))) }
+    ensures read { IfOk result (HoldsPiece S.Shelf shelf.old part.entry done buffer.new) }
     ensures short { IfErr result (EndsWithin part.entry.at part.entry.len) }
-    ensures ended { IsTold (S.files shelf.old) → IfErr result (EndsAt (part.entry.at + done) (length (content (S.files shelf.old) part.entry.name.now))) }
-    ensures whole { IsTold (S.files shelf.old) → part.entry.at + part.entry.len ≤ length (content (S.files shelf.old) part.entry.name.now) → IfErr result IsNotShort }
-    ensures files { S.files shelf.new ≡ S.files shelf.old }
-    ensures unsealed { S.unsealed shelf.new ≡ S.unsealed shelf.old }
-    ensures cause { HasCause PieceError.Failed PieceError.NoMemory (S.faults shelf.old) (S.faults shelf.new) (S.starved shelf.old) (S.starved shelf.new) result }
+    ensures ended { Tells S.Shelf shelf.old → IfErr result (EndsAt (part.entry.at + done) (file_len S.Shelf shelf.old part.entry)) }
+    ensures whole { Tells S.Shelf shelf.old → IsWithin S.Shelf shelf.old part.entry → IfErr result IsNotShort }
+    ensures kept { OnlyReads S.Shelf shelf.old shelf.new }
+    ensures cause { Caused S.Shelf PieceError.Failed PieceError.NoMemory shelf.old shelf.new result }
 {
     let count = (part.len - done).min(buffer.len() as u64) as usize;
     read_piece(shelf, part.name, part.at + done, &mut buffer[..count])?;
     Ok(count)
 }
 
-/// The MD5 of a part, read piece by piece: at most `buffer.len()` bytes are held at once. Where the file ends before the
-/// part does, it answers at which place.
+/// The MD5 of a part, read piece by piece: at most `buffer.len()` bytes are held at once. A part that fits the buffer is one
+/// piece, and is left at its front. Where the file ends before the part does, it answers at which place.
 #[tactic(auto, using(crate::proofs::PartLaws::part_laws))]
 pub fn sum_part<S: Shelf>(
     shelf: &mut S,
@@ -52,16 +50,16 @@ pub fn sum_part<S: Shelf>(
     buffer: &mut [u8],
 ) -> Result<[u8; 16], PieceError>
     requires room { 0 < length buffer.old }
-    requires there { HasFile (S.files shelf.old) part.name.now }
+    requires there { Has S.Shelf shelf.old part.name.now }
     requires fits { part.at + part.len < 2 ^ 64 }
-    ensures sum { IfOk result (λ sum. IsTold (S.files shelf.old) → sum ≡ md5 (part_of part.entry.at part.entry.len (content (S.files shelf.old) part.entry.name.now))) }
-    ensures long { OnOk result (IsTold (S.files shelf.old) → length (part_of part.entry.at part.entry.len (content (S.files shelf.old) part.entry.name.now)) ≡ part.entry.len) }
+    ensures sum { IfOk result (Sums S.Shelf shelf.old part.entry) }
+    ensures long { OnOk result (IsWhole S.Shelf shelf.old part.entry) }
+    ensures held { OnOk result (IsHeld S.Shelf shelf.old part.entry buffer.new) }
     ensures short { IfErr result (EndsWithin part.entry.at part.entry.len) }
-    ensures ended { IsTold (S.files shelf.old) → IfErr result (EndsAt part.entry.at (length (content (S.files shelf.old) part.entry.name.now))) }
-    ensures whole { IsTold (S.files shelf.old) → part.entry.at + part.entry.len ≤ length (content (S.files shelf.old) part.entry.name.now) → IfErr result IsNotShort }
-    ensures files { S.files shelf.new ≡ S.files shelf.old }
-    ensures unsealed { S.unsealed shelf.new ≡ S.unsealed shelf.old }
-    ensures cause { HasCause PieceError.Failed PieceError.NoMemory (S.faults shelf.old) (S.faults shelf.new) (S.starved shelf.old) (S.starved shelf.new) result }
+    ensures ended { Tells S.Shelf shelf.old → IfErr result (EndsAt part.entry.at (file_len S.Shelf shelf.old part.entry)) }
+    ensures whole { Tells S.Shelf shelf.old → IsWithin S.Shelf shelf.old part.entry → IfErr result IsNotShort }
+    ensures kept { OnlyReads S.Shelf shelf.old shelf.new }
+    ensures cause { Caused S.Shelf PieceError.Failed PieceError.NoMemory shelf.old shelf.new result }
 {
     let mut hasher = Md5::new();
     let mut done = 0;
@@ -82,19 +80,18 @@ pub fn copy_part<S: Shelf>(
     buffer: &mut [u8],
 ) -> Result<[u8; 16], PieceError>
     requires room { 0 < length buffer.old }
-    requires there { HasFile (S.files shelf.old) part.name.now }
-    requires open { IsPending (S.unsealed shelf.old) to.now }
-    requires target { HasFile (S.files shelf.old) to.now }
-    requires apart { IsApart (S.files shelf.old) part.name.now to.now }
+    requires there { Has S.Shelf shelf.old part.name.now }
+    requires open { IsUnsealed S.Shelf shelf.old to.now }
+    requires target { Has S.Shelf shelf.old to.now }
+    requires apart { Differ S.Shelf shelf.old part.name.now to.now }
     requires fits { part.at + part.len < 2 ^ 64 }
-    requires measured { IsTold (S.files shelf.old) → part.len ≤ length (content (S.files shelf.old) part.name.now) - part.at }
-    ensures copied { OnOk result (S.files shelf.new ≡ grown (S.files shelf.old) to.now (part_of part.entry.at part.entry.len (content (S.files shelf.old) part.entry.name.now))) }
-    ensures sum { IfOk result (λ sum. IsTold (S.files shelf.old) → sum ≡ md5 (part_of part.entry.at part.entry.len (content (S.files shelf.old) part.entry.name.now))) }
-    ensures stopped { OnErr result (GrewPartly (S.files shelf.old) to.now (part_of part.entry.at part.entry.len (content (S.files shelf.old) part.entry.name.now)) (S.files shelf.new)) }
+    requires measured { Tells S.Shelf shelf.old → part.len ≤ file_len S.Shelf shelf.old part - part.at }
+    ensures copied { OnOk result (Grew S.Shelf shelf.old shelf.new to.now (part_on S.Shelf shelf.old part.entry)) }
+    ensures sum { IfOk result (Sums S.Shelf shelf.old part.entry) }
+    ensures stopped { OnErr result (GrewInPart S.Shelf shelf.old shelf.new to.now (part_on S.Shelf shelf.old part.entry)) }
     ensures short { IfErr result (EndsWithin part.entry.at part.entry.len) }
-    ensures whole { IsTold (S.files shelf.old) → IfErr result IsNotShort }
-    ensures unsealed { S.unsealed shelf.new ≡ S.unsealed shelf.old }
-    ensures cause { HasCause PieceError.Failed PieceError.NoMemory (S.faults shelf.old) (S.faults shelf.new) (S.starved shelf.old) (S.starved shelf.new) result }
+    ensures whole { Tells S.Shelf shelf.old → IfErr result IsNotShort }
+    ensures cause { Caused S.Shelf PieceError.Failed PieceError.NoMemory shelf.old shelf.new result }
 {
     let mut hasher = Md5::new();
     let mut done = 0;

@@ -1,10 +1,9 @@
 ghost use Rattle.std.specs.Prelude.{◌≡◌, ◌≤◌, ◌+◌, Ok, length, All, IfOk, IfErr};
-ghost use Rattle.shelf_core.specs.Reads.{OnlyReads};
-ghost use Rattle.shelf_core.specs.Told.{IsTold, HasFile, content};
+ghost use Rattle.shelf_core.specs.Reads.{OnlyReads, Has};
 ghost use Rattle.shelf_reader.specs.Keeping.{known, IsReady, Reads};
 ghost use Rattle.shelf_reader.specs.Readings.{Answers};
-ghost use Rattle.cook_restore.specs.Answered.{IsRefusal, OutlineStops};
-ghost use Rattle.cook_restore.specs.Outline.{outline_in, outline_of};
+ghost use Rattle.cook_restore.specs.Answered.{OutlineStops, OutlinesOn, RefusesOn};
+ghost use Rattle.cook_restore.specs.Outline.{outline_in};
 ghost use Rattle.cook_restore.specs.Inside.{EndsBy, AllEndBy};
 
 use crate::matroska_read::element::read_segment_head;
@@ -39,9 +38,9 @@ pub fn outline<S: Shelf>(
     name: &str,
     len: u64,
 ) -> Result<Outline, OutlineError>
-    requires { HasFile (S.files shelf.old) name.now }
-    ensures exact { IfOk result (λ files. IsTold (S.files shelf.old) → len ≡ length (content (S.files shelf.old) name.now) → outline_of (content (S.files shelf.old) name.now) ≡ Ok files) }
-    ensures fault { IfErr result (λ error. IsTold (S.files shelf.old) → len ≡ length (content (S.files shelf.old) name.now) → IsRefusal (outline_of (content (S.files shelf.old) name.now)) error) }
+    requires { Has S.Shelf shelf.old name.now }
+    ensures exact { IfOk result (OutlinesOn S.Shelf shelf.old name.now len) }
+    ensures fault { IfErr result (RefusesOn S.Shelf shelf.old name.now len) }
     ensures cause { IfErr result (OutlineStops S.Shelf len shelf.old shelf.new) }
     ensures within { IfOk result (All (EndsBy len)) }
     ensures kept { OnlyReads S.Shelf shelf.old shelf.new }

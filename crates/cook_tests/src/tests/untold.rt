@@ -254,10 +254,9 @@ fn files_in_the_profile_are_planned(rt: HostRuntime) -> Result<(), Fail> {
     assert_eq!(rt; plan.tracks(), 0);
     assert_eq!(rt; plan.root(), "d");
     let table = [("a.dpx.txt", 1 << 49), ("b!", 0), ("b/dpx", 1 << 49)];
-    for (index, (name, len)) in table.into_iter().enumerate() {
-        assert!(rt; index < plan.files() as usize);
-        assert_eq!(rt; plan.name(index), name);
-        assert_eq!(rt; plan.length(index), len);
+    for (file, (name, len)) in plan.as_slice().iter().zip(table) {
+        assert_eq!(rt; file.name.as_str(), name);
+        assert_eq!(rt; file.length, len);
     }
     Ok(())
 }

@@ -1,34 +1,60 @@
-use Rattle.std.proofs.Common.{length, map, refl, ap, subst, ◌∙◌, sym, arith}
+use Rattle.std.proofs.Common.{◌≡◌, ◌+◌, ◌++◌, length, ap, ◌∙◌, sym, arith, length-append}
 use Rattle.std.proofs.lemmas.Result.{err_from_is_err_and}
-use Rattle.shelf_core.proofs.PieceLaws.{GrewPartly-first, GrewPartly-second, grown-both, IsTold-while_grown}
-use Rattle.reversal.specs.SideData.{AreRecords}
-use Rattle.cook_pack.specs.Package.{planned_files, side_attached, record_of}
-use Rattle.cook_pack.proofs.AttachLaws.{on_err, StopsFor-later}
-use Rattle.cook_pack.proofs.PlannedLaws.{HasFile-while_grown}
-use Rattle.cook_pack.proofs.PackLaws.{records-are, length-records, attachments-is}
+use Rattle.cook_pack.specs.Attaching.{files_on}
+use Rattle.cook_pack.specs.Package.{attachments_of}
+use Rattle.cook_pack.proofs.AttachLaws.{StopsFor-later}
+use Rattle.cook_pack.proofs.FitLaws.{content-is}
+use Rattle.cook_pack.proofs.GrowLaws.{GrewInPart-nothing, GrewInPart-first, GrewInPart-second, Grew-both, Has-while_grown, Tells-while_grown, on_err}
+use Rattle.cook_pack.proofs.PackLaws.{attachments_bytes-is, short_attachments_head}
+use Rattle.cook_pack.proofs.PlannedLaws.{CanAttach-while_grown, files_on-while_grown}
 use Rattle.cook_pack.proofs.packing.write_attachments.Goals as goal
 
-pub returns-in_err-records-clause-stopped : goal.returns-in_err-records-clause-stopped
-returns-in_err-records-clause-stopped g c = on_err _ (GrewPartly-first _ _ _ _ _ (side_attached (map record_of (planned_files (g.S.Shelf.files c.args.shelf.now) c.args.plan.now))) (λ known. attachments-is _ _ refl) c.in_err-records.ensures.stopped)
+pub returns-in_err-head-clause-stopped : goal.returns-in_err-head-clause-stopped
+returns-in_err-head-clause-stopped g c = on_err _ (GrewInPart-nothing _ _ _ _ c.requires.target)
 
-pub attach_side-requires-clause-are : goal.attach_side-requires-clause-are
-attach_side-requires-clause-are g c = subst AreRecords (sym c.deref.ensures.value) (records-are _ _ _ c.requires.ready.sound c.in_ok-records.ensures.records)
+pub returns-in_err-append_piece-clause-stopped : goal.returns-in_err-append_piece-clause-stopped
+returns-in_err-append_piece-clause-stopped g c =
+    let files = files_on g.S.Shelf c.args.shelf.now c.args.plan.now in
+    let part = c.in_err-append_piece.ensures.err in
+    on_err _ (GrewInPart-first _ _ _ _ _ _ (attachments_of files)
+    (λ known. attachments_bytes-is files _ _ (c.as_slice.ensures ∙ c.in_ok-head.ensures) (c.attachments_len-content.ensures.len ∙ content-is _ _ _ c.requires.ready known)) part)
 
-pub attach_side-requires-clause-few : goal.attach_side-requires-clause-few
-attach_side-requires-clause-few g c = omega (arith, ap length c.deref.ensures.value, length-records (g.S.Shelf.files c.args.shelf.now) c.args.plan.now _ c.in_ok-records.ensures.records, c.requires.ready.sound.few)
+pub attach_all-requires-clause-ready : goal.attach_all-requires-clause-ready
+attach_all-requires-clause-ready g c =
+    let grew = c.in_ok-append_piece.ensures.ok in
+    CanAttach-while_grown _ _ _ _ _ _ grew c.requires.ready
 
-pub attach_side-requires-clause-target : goal.attach_side-requires-clause-target
-attach_side-requires-clause-target g c = HasFile-while_grown _ _ _ _ _ c.in_ok-records.ensures.attached c.requires.target
+pub attach_all-requires-clause-target : goal.attach_all-requires-clause-target
+attach_all-requires-clause-target g c =
+    let grew = c.in_ok-append_piece.ensures.ok in
+    Has-while_grown _ _ _ _ _ _ grew c.requires.target
 
-pub returns-in_err-attach_side-clause-stopped : goal.returns-in_err-attach_side-clause-stopped
-returns-in_err-attach_side-clause-stopped g c = on_err _ (GrewPartly-second _ _ _ _ _ _ _ c.in_ok-records.ensures.attached
-    (λ known. attachments-is _ _ (c.deref.ensures.value ∙ c.in_ok-records.ensures.records.whole known)) c.in_err-attach_side.ensures.stopped)
+pub returns-in_err-attach_all-clause-stopped : goal.returns-in_err-attach_all-clause-stopped
+returns-in_err-attach_all-clause-stopped g c =
+    let grew = c.in_ok-append_piece.ensures.ok in
+    let same = files_on-while_grown _ _ _ _ _ _ grew c.requires.ready in
+    on_err _ (GrewInPart-second _ _ _ _ _ _ _ _ grew (λ known. ap (λ l. c.as_slice.result.now ++ attachments_of l) same
+    ∙ attachments_bytes-is (files_on g.S.Shelf c.args.shelf.now c.args.plan.now) _ _ (c.as_slice.ensures ∙ c.in_ok-head.ensures) (c.attachments_len-content.ensures.len ∙ content-is _ _ _ c.requires.ready known))
+    c.in_err-attach_all.ensures.stopped)
 
-pub returns-in_err-attach_side-clause-cause : goal.returns-in_err-attach_side-clause-cause
-returns-in_err-attach_side-clause-cause g c =
-    let p = err_from_is_err_and c.from_residual-in_err-attach_side.result c.from_residual-in_err-attach_side.ensures.1 in
-    rw (p.1, p.2) (StopsFor-later _ _ _ _ _ _ _ (IsTold-while_grown _ _ _ _ c.in_ok-records.ensures.attached) c.in_ok-records.ensures.kept (c.in_err-attach_side.ensures.cause _))
+pub returns-in_err-attach_all-clause-cause : goal.returns-in_err-attach_all-clause-cause
+returns-in_err-attach_all-clause-cause g c =
+    let grew = c.in_ok-append_piece.ensures.ok in
+    let p = err_from_is_err_and c.from_residual-in_err-attach_all.result c.from_residual-in_err-attach_all.ensures.1 in
+    rw (p.1, p.2) (StopsFor-later _ _ _ _ _ _ (Tells-while_grown _ _ _ _ _ grew) grew.faults c.in_err-attach_all.ensures.cause)
 
-pub returns-clause-attached : goal.returns-clause-attached
-returns-clause-attached g c = grown-both _ _ _ _ _ _ _ c.in_ok-records.ensures.attached c.in_ok-attach_side.ensures.attached
-    (λ known. attachments-is _ _ (c.deref.ensures.value ∙ c.in_ok-records.ensures.records.whole known))
+pub returns-clause-written : goal.returns-clause-written
+returns-clause-written g c =
+    let grew = c.in_ok-append_piece.ensures.ok in
+    let same = files_on-while_grown _ _ _ _ _ _ grew c.requires.ready in
+    Grew-both _ _ _ _ _ _ _ _ grew c.in_ok-attach_all.ensures.attached (λ known. ap (λ l. c.as_slice.result.now ++ attachments_of l) same
+    ∙ attachments_bytes-is (files_on g.S.Shelf c.args.shelf.now c.args.plan.now) _ _ (c.as_slice.ensures ∙ c.in_ok-head.ensures) (c.attachments_len-content.ensures.len ∙ content-is _ _ _ c.requires.ready known))
+
+pub returns-clause-bytes : goal.returns-clause-bytes
+returns-clause-bytes g c = λ known.
+    let files = files_on g.S.Shelf c.args.shelf.now c.args.plan.now in
+    let long : c.attachments_len-content.result ≡ length (attachments_of files) = c.attachments_len-content.ensures.len ∙ content-is _ _ _ c.requires.ready known in
+    ap (λ n. length c.as_slice-2.result.now + n) long ∙ sym (length-append c.as_slice-2.result.now (attachments_of files)) ∙ ap length (attachments_bytes-is files _ _ (c.as_slice-2.ensures ∙ c.in_ok-head.ensures) long)
+
+pub returns-clause-small : goal.returns-clause-small
+returns-clause-small g c = omega (arith, short_attachments_head _ _ (c.as_slice-2.ensures ∙ c.in_ok-head.ensures), c.attachments_len-content.ensures.high)

@@ -1,18 +1,16 @@
-use Rattle.std.proofs.Common.{◌≡◌, ◌-◌, ◌<◌, ◌≤◌, length, take}
+use Rattle.std.proofs.Common.{◌-◌, ◌<◌, ◌≤◌, length, take}
 use Rattle.md5.specs.Md5.{Holds}
-use Rattle.shelf_core.specs.Told.{IsTold, content, grown}
-use Rattle.shelf_parts.specs.Parts.{part_of}
+use Rattle.shelf_core.specs.Reads.{Tells}
+use Rattle.shelf_core.specs.Writes.{Grew}
+use Rattle.shelf_parts.specs.Parts.{part_on}
 use Rattle.shelf_parts.proofs.parts.copy_part.Given as goal
 
 abbrev pub invariant-loop-done : goal.invariant-loop-done
 invariant-loop-done g l = record {
   within : l.done ≤ l.part.len;
   room : 0 < length l.buffer;
-  files : g.S.Shelf.files l.shelf ≡ grown (g.S.Shelf.files l.fn.shelf) l.to (take l.done (part_of l.part.at l.part.len (content (g.S.Shelf.files l.fn.shelf) l.part.name.now)));
-  unsealed : g.S.Shelf.unsealed l.shelf ≡ g.S.Shelf.unsealed l.fn.shelf;
-  faults : g.S.Shelf.faults l.fn.shelf ≤ g.S.Shelf.faults l.shelf;
-  starved : g.S.Shelf.starved l.fn.shelf ≤ g.S.Shelf.starved l.shelf;
-  sum : IsTold (g.S.Shelf.files l.fn.shelf) → Holds l.hasher (take l.done (part_of l.part.at l.part.len (content (g.S.Shelf.files l.fn.shelf) l.part.name.now)));
+  grew : Grew g.S.Shelf l.fn.shelf l.shelf l.to (take l.done (part_on g.S.Shelf l.fn.shelf l.part));
+  sum : Tells g.S.Shelf l.fn.shelf → Holds l.hasher (take l.done (part_on g.S.Shelf l.fn.shelf l.part));
 }
 
 abbrev pub decreases-loop-done : goal.decreases-loop-done

@@ -1,8 +1,9 @@
 use Rattle.std.proofs.Common.{arith, sym, ◌∙◌, subst}
-use Rattle.std.specs.Prelude.{IfSome}
+use Rattle.std.specs.Prelude.{IfSome, IfOk, IfErr}
 use Rattle.cook_restore.specs.Contents.{PlaceEndsBy}
+use Rattle.cook_restore.specs.Giving.{IsContentGiven, NotGiven}
 use Rattle.cook_restore.specs.Restoring.{no_record, record_at}
-use Rattle.cook_restore.proofs.NextLaws.{at-any, given-same, place-at, place-ends, places-length, stopped-same}
+use Rattle.cook_restore.proofs.NextLaws.{asked-there, at-any, place-at, place-ends, places-length}
 use Rattle.cook_restore.proofs.restorer.Restorer.give_file.Goals as goal
 
 pub index-requires-2 : goal.index-requires-2
@@ -15,8 +16,10 @@ give-requires-clause-ends g c =
 
 pub returns-clause-given : goal.returns-clause-given
 returns-clause-given g c =
-    given-same c.give.result _ _ _ _ _ _ c.args.self.now.len _ _ _ _ _ _ c.as_str.ensures (c.index.ensures ∙ at-any _ _ _ no_record c.requires.inside) (c.index-2.ensures ∙ place-at _ _ _ _ _ c.args.self.now.placed c.requires.inside) c.root_of.ensures c.give.ensures.given
+    let asked = asked-there _ _ _ _ c.args.self.now c.args.number c.as_str.ensures (c.index.ensures ∙ at-any _ _ _ no_record c.requires.inside) (c.index-2.ensures ∙ place-at _ _ _ _ _ c.args.self.now.placed c.requires.inside) c.root_of.ensures in
+    subst (λ a. IfOk c.give.result (IsContentGiven g.S.Shelf c.args.shelf.now c.give.new.shelf a)) asked c.give.ensures.given
 
 pub returns-clause-stopped : goal.returns-clause-stopped
 returns-clause-stopped g c =
-    stopped-same c.give.result _ _ _ _ _ _ _ _ c.args.self.now.len _ _ _ _ _ _ c.as_str.ensures (c.index.ensures ∙ at-any _ _ _ no_record c.requires.inside) (c.index-2.ensures ∙ place-at _ _ _ _ _ c.args.self.now.placed c.requires.inside) c.root_of.ensures c.give.ensures.stopped
+    let asked = asked-there _ _ _ _ c.args.self.now c.args.number c.as_str.ensures (c.index.ensures ∙ at-any _ _ _ no_record c.requires.inside) (c.index-2.ensures ∙ place-at _ _ _ _ _ c.args.self.now.placed c.requires.inside) c.root_of.ensures in
+    subst (λ a. IfErr c.give.result (NotGiven g.S.Shelf c.args.shelf.now c.give.new.shelf a)) asked c.give.ensures.stopped
