@@ -1,5 +1,10 @@
--- The parameters of a stream as bytes, and the samples of a block.
+-- FLAC frames as lists of bits, and the stream's parameters as bytes.
 pub mod Block
+pub mod Frame
+pub mod Header
 pub mod Laws
+pub mod Reading
+pub mod Residual
 pub mod Samples
 pub mod StreamInfo
+pub mod Subframe

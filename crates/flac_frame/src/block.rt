@@ -2,11 +2,17 @@
 
 ghost use Rattle.std.specs.Prelude.{◌≡◌, ◌<◌, ◌≤◌, ◌*◌, pos, replicate, IfOk};
 ghost use Rattle.std.specs.Borrow.{sem};
-ghost use Rattle.flac_frame.specs.Samples.{channel_of};
+ghost use Rattle.flac_frame.specs.Samples.{channel_of, channels_of};
+ghost use Rattle.flac_frame.specs.Reading.{Reads};
+ghost use Rattle.flac_frame.specs.Frame.{samples_at};
 ghost use Rattle.flac_frame.specs.Block.{LendsChannel};
 ghost use Rattle.std.specs.Prelude.{length};
 
-use cook_bits::NoMemory;
+use crate::FlacWhy;
+use crate::channels::subframes;
+use crate::header::Header;
+use crate::stereo::decorrelate;
+use cook_bits::{BitReader, NoMemory};
 use std::alloc::Global;
 use std::marker::Model;
 
@@ -82,5 +88,40 @@ impl Block {
         let start = k as usize * self.capacity as usize;
         let end = start + self.len as usize;
         self.samples.slice_mut(start..end)
+    }
+
+    /// How many samples of each channel there is room for.
+    pub(crate) fn capacity(&self) -> u32
+        ensures { result ≡ self.now.capacity }
+    {
+        self.capacity
+    }
+
+    /// Reads the samples of a frame behind its header, as many of each channel as the header says.
+    #[tactic(auto, unfolding(crate::specs::Frame::samples_at, crate::specs::Samples::channels_of))]
+    pub(crate) fn read_samples(
+        &mut self,
+        reader: &mut BitReader<'_>,
+        header: Header,
+        bits: u32,
+    ) -> Result<(), FlacWhy>
+        requires low { 1 ≤ bits }
+        requires high { bits ≤ 24 }
+        requires room { header.size ≤ self.old.capacity }
+        requires two { 8 ≤ header.channel_code → self.old.channels ≡ 2 }
+        ensures samples { Reads (λ _. channels_of self.new) result reader.new
+            (samples_at header.channel_code bits header.size self.old.channels reader.old) }
+        ensures channels { self.new.channels ≡ self.old.channels }
+        ensures capacity { self.new.capacity ≡ self.old.capacity }
+    {
+        self.len = header.size;
+        let room = self.capacity as usize;
+        let size = header.size as usize;
+        let count = self.channels as usize;
+        let code = header.channel_code;
+        let samples = self.samples.as_mut_slice();
+        subframes(reader, code, bits, size, room, count, samples)?;
+        decorrelate(code, bits, size, room, count, samples)?;
+        Ok(())
     }
 }

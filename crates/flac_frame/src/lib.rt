@@ -1,12 +1,22 @@
-//! FLAC (RFC 9639): the parameters of a stream, written and read, and the samples of a block.
+//! FLAC (RFC 9639): the parameters of a stream, written and read, and frames, read by the whole grammar.
 #![tactic(auto)]
 
 mod block;
+mod channels;
+mod error;
+mod frame;
+mod header;
 pub mod laws;
+mod reading;
+mod residual;
 mod sharing;
+mod stereo;
 mod stream_info;
+mod subframe;
 
 pub use block::Block;
+pub use error::FlacWhy;
+pub use frame::decode;
 pub use stream_info::{InfoBad, StreamInfo};
 
 #[cfg(test)]
