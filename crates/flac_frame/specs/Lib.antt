@@ -5,6 +5,9 @@ pub mod Header
 pub mod Laws
 pub mod Reading
 pub mod Residual
+pub mod RoundTrip
 pub mod Samples
+pub mod Spelling
 pub mod StreamInfo
 pub mod Subframe
+pub mod Writing

@@ -1,7 +1,11 @@
-//! What holds of the parameters of a stream and of a block's samples. Each function does nothing: its contract is the
+//! What holds of the parameters of a stream, of a block's samples and of frames. Each function does nothing: its contract is the
 //! law, which a proof elsewhere can cite.
 
 ghost use Rattle.flac_frame.specs.Laws.{ChannelIsWritten, InfoIsRead};
+ghost use Rattle.flac_frame.specs.RoundTrip.{FrameIsRead};
+
+use cook_bits::laws as bits;
+use flac_predict::laws as prediction;
 
 /// Samples that are written into a channel stand there, and those of the other channels stay.
 pub fn channel_is_written()
@@ -12,3 +16,20 @@ pub fn channel_is_written()
 pub fn info_is_read()
     ensures { InfoIsRead }
 {}
+
+/// The frame that is written of samples is read as these samples, and the bytes of a stream's parameters as these
+/// parameters.
+pub fn n7()
+    ensures frame { FrameIsRead }
+    ensures info { InfoIsRead }
+{
+    bits::written_field_is_read();
+    bits::bits_and_bytes_tell_each_other();
+    bits::bits_of_bytes();
+    bits::checksums_fit();
+    prediction::samples_are_restored();
+    prediction::counts();
+    prediction::residuals_are_small();
+    prediction::choice_is_light();
+    info_is_read();
+}
