@@ -159,8 +159,8 @@ cells-inside rows from (suc count) fits =
     (record { across_high = omega arith; down_high = omega arith })
     (cells-inside rows (from + 1) count (omega arith))
 
-film-cover : (rows : ℕ) → CoverOnce 1 rows (map cells_of (map film_head (range_with_len 0 rows)))
-film-cover rows = record { inside = cells-inside rows 0 rows (omega arith); once = λ x y x_low y_low. count-one x y 0 rows x_low (omega arith) (omega arith) }
+film-cover : (count : ℕ) → CoverOnce 1 count (map cells_of (map film_head (range_with_len 0 count)))
+film-cover count = record { inside = cells-inside count 0 count (omega arith); once = λ x y x_low y_low. count-one x y 0 count x_low (omega arith) (omega arith) }
 
 -- ---- the frame
 

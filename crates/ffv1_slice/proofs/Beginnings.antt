@@ -1,30 +1,18 @@
 -- What the bytes of a slice begin with, and how many they are.
-use Rattle.std.proofs.Common.{◌≡◌, ℕ, zero, suc, ◌+◌, ◌-◌, ◌*◌, ◌/◌, ◌^◌, ◌<◌, ◌≤◌, min, max, List, [], ◌∷◌, ◌++◌, All, Bool, true, false, length, get_or, refl, sym, ap, ◌∙◌, subst, arith, inl, inr}
-use Rattle.std.proofs.lemmas.Bool.{cases_lt}
-use Rattle.std.proofs.lemmas.List.{get_or_past, ext_get_or}
-use Rattle.std.proofs.Math.Nat.{mul-le-mul_left}
-use Rattle.std.specs.Prelude.{ℤ, slice_index, unsigned_abs}
-use Rattle.std.specs.Int.{is_negative}
+use Rattle.std.proofs.Common.{◌≡◌, ℕ, ◌+◌, ◌*◌, ◌^◌, ◌<◌, ◌≤◌, List, [], ◌++◌, All, Bool, length, refl, subst, arith, inl, inr}
 use Rattle.range_coder.specs.Choices.{Choice, UseSlots}
 use Rattle.range_coder.specs.Facts.{SetsOfStates}
-use Rattle.range_coder.specs.Interval.{coded}
-use Rattle.range_coder.specs.Laws.{SymbolSlots, CodedIsRead, ChoicesAreOnStates}
+use Rattle.range_coder.specs.Laws.{SymbolSlots, SymbolsPart, PartedAreNotBothRead, ChoicesAreOnStates}
 use Rattle.range_coder.specs.Table.{IsClosed, AreLive}
 use Rattle.ffv1_params.specs.Parameters.{Parameters, AreSound}
-use Rattle.ffv1_slice.specs.declared.around.Around.{Around}
 use Rattle.ffv1_slice.specs.declared.head.SliceHead.{SliceHead}
-use Rattle.ffv1_slice.specs.Below.{IsHalf}
-use Rattle.ffv1_slice.specs.Colour.{Pixel, pixel_in, plane_sample, samples_of, from_green}
+use Rattle.ffv1_slice.specs.Colour.{pixel_in, samples_of, from_green}
 use Rattle.ffv1_slice.specs.Laws.{IsInside}
-use Rattle.ffv1_slice.specs.Plane.{cell, around_at, context, prediction, difference, sample_choices, IsSample}
-use Rattle.ffv1_slice.specs.Pixels.{IsPixel}
-use Rattle.ffv1_slice.specs.Slice.{slice_states, slice_choices, slice_decisions, written_numbers, front_choices, first_slot, plane_values, line_choices, row_choices, rows_choices, IsTile, AreCells, AreTaken, TellHead, IsLine, IsRow, AreRows, Codes}
+use Rattle.ffv1_slice.specs.Plane.{Joins}
+use Rattle.ffv1_slice.specs.Slice.{slice_states, slice_choices, slice_decisions, written_numbers, front_choices, rows_choices, IsTile, TellHead, AreRows, Codes}
 use Rattle.ffv1_slice.proofs.Depths.{depth_half}
-use Rattle.ffv1_slice.proofs.Joining.{joins_joined}
-use Rattle.ffv1_slice.proofs.OneTile.{slice_slots}
-use Rattle.ffv1_slice.proofs.Placing.{difference_small}
-use Rattle.ffv1_slice.proofs.Restoring.{restored_back}
-use Rattle.std.proofs.lemmas.List.{drop_at}
+use Rattle.ffv1_slice.proofs.OneTile.{fronts_apart, one_head, slice_slots}
+use Rattle.std.proofs.lemmas.List.{append-nil, drop_at}
 use Rattle.std.proofs.lemmas.List.Elements.{All-drop}
 use Rattle.cook_bits.specs.Bits.{AreBytes}
 use Rattle.range_coder.specs.Choices.{decided, states_after}
@@ -65,6 +53,25 @@ begins_with read joined symbols sets on params first width height bytes head til
       numbers = codes.numbers;
       tell = codes.tell;
       reads = read bytes (decided_in params (front_choices first codes.numbers)) (decided params.table (states_after params.table (slice_states params) (front_choices first codes.numbers)) codes.choices) are
-      (rest_on (decided_in params (front_choices first codes.numbers)) (decided params.table (states_after params.table (slice_states params) (front_choices first codes.numbers)) codes.choices) (subst P parts all))
-      (subst Q parts codes.reads);
+          (rest_on (decided_in params (front_choices first codes.numbers)) (decided params.table (states_after params.table (slice_states params) (front_choices first codes.numbers)) codes.choices) (subst P parts all))
+          (subst Q parts codes.reads);
     }
+
+-- ---- one head
+
+front_slots : SymbolSlots → SetsOfStates → (params : Parameters) (head : SliceHead) (first : Bool) (numbers : List ℕ) → AreSound params → TellHead params numbers head → UseSlots (length (slice_states params)) (front_choices first numbers)
+unfolding Joins
+front_slots symbols sets params head first numbers sound tell =
+    let P : List Choice → Type 0 = λ cs. UseSlots (length (slice_states params)) cs in
+    subst P (append-nil (front_choices first numbers)) (slice_slots symbols sets params head first 1 0 numbers (λ plane y x. 0) [] sound tell refl)
+
+pub one_beginning : SymbolsPart → SymbolSlots → SetsOfStates → PartedAreNotBothRead → (params : Parameters) (first : Bool) (bytes : List ℕ) (head head' : SliceHead) → IsClosed params.table → AreLive params.table (slice_states params) → AreSound params → AreBytes bytes → CodesHead params first bytes head → CodesHead params first bytes head' → head ≡ head'
+one_beginning law symbols sets parted params first bytes head head' closed live sound are a b =
+    elim (fronts_apart law params first a.numbers b.numbers head head' a.tell b.tell) as (λ _. head ≡ head') [
+      | inl same ↦ one_head params a.numbers b.numbers head head' a.tell b.tell same.0
+      | inr part ↦
+          absurd (parted params.table (slice_states params) bytes (front_choices first a.numbers) (front_choices first b.numbers) closed live
+          (front_slots symbols sets params head first a.numbers sound a.tell)
+          (front_slots symbols sets params head' first b.numbers sound b.tell)
+          are part a.reads b.reads)
+    ]

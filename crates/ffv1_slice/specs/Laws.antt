@@ -44,3 +44,8 @@ CodedIsSome =
 abbrev pub CodedIsFew : Type 0
 CodedIsFew =
     (params : Parameters) (head : SliceHead) (width height : ℕ) (first : Bool) (tile : List ℕ) → AreSound params → IsInside params head → 105 * (width * height) ≤ 16000000 → length (coded (slice_decisions params head width height first tile)) ≤ 16001000
+
+-- and bytes begin as a slice with one head
+abbrev pub HeadIsOne : Type 0
+HeadIsOne =
+    (params : Parameters) (first : Bool) (bytes : List ℕ) (head head' : SliceHead) → AreSound params → AreBytes bytes → CodesHead params first bytes head → CodesHead params first bytes head' → head ≡ head'

@@ -1,7 +1,7 @@
 //! What holds of the definitions of slices. Each function does nothing: its contract is the law, which a proof
 //! elsewhere can cite.
 
-ghost use Rattle.ffv1_slice.specs.Laws.{CodedIsCode, CodedIsFew, CodedIsHead, CodedIsOne, CodedIsSome, CodesTellHead};
+ghost use Rattle.ffv1_slice.specs.Laws.{CodedIsCode, CodedIsFew, CodedIsHead, CodedIsOne, CodedIsSome, CodesTellHead, HeadIsOne};
 
 use range_coder::{States, Table, laws};
 
@@ -36,5 +36,16 @@ pub fn slices_begin()
     laws::sets_of_states();
     laws::choices_stay_live();
     laws::code_lengths();
+    let _table = Table::default_table();
+}
+
+/// Bytes begin as a slice with one head at most.
+pub fn heads_are_one()
+    ensures { HeadIsOne }
+{
+    laws::one_list_is_read();
+    laws::symbols_part();
+    laws::symbol_slots();
+    laws::sets_of_states();
     let _table = Table::default_table();
 }
