@@ -57,6 +57,18 @@ pub fn samples(alloc: Global, list: &[u16]) -> Result<String, Stop> {
     counted(alloc, list.len(), spelled.as_slice())
 }
 
+/// The samples of sound: a long list is summed as four bytes each, the lowest first.
+pub fn sound(alloc: Global, list: &[i32]) -> Result<String, Stop> {
+    if list.len() <= MOST_ENTRIES {
+        return numbers(alloc, list);
+    }
+    let mut spelled = Vec::new(alloc);
+    for sample in list {
+        spelled.extend_from_slice(&sample.to_le_bytes())?;
+    }
+    counted(alloc, list.len(), spelled.as_slice())
+}
+
 /// The pads of an image: a long list is summed as a byte each.
 pub fn pads(alloc: Global, list: &[u8]) -> Result<String, Stop> {
     if list.len() <= MOST_ENTRIES {

@@ -4,6 +4,7 @@ use crate::bits::BitsCase;
 use crate::coder::CoderCase;
 use crate::dpx::DpxCase;
 use crate::ebml::EbmlCase;
+use crate::flac::FlacCase;
 use crate::names::NamesCase;
 use crate::outline::OutlineCase;
 use crate::pack::PackCase;
@@ -26,6 +27,7 @@ enum Case {
     Runs(RunsCase),
     Names(NamesCase),
     Slice(SliceCase),
+    Flac(FlacCase),
     Ebml(EbmlCase),
     Side(SideCase),
     Outline(OutlineCase),
@@ -56,6 +58,9 @@ fn read(alloc: Global, words: &[&str]) -> Result<Case, Stop> {
     }
     if let Some(case) = SliceCase::read(alloc, words)? {
         return Ok(Case::Slice(case));
+    }
+    if let Some(case) = FlacCase::read(alloc, words)? {
+        return Ok(Case::Flac(case));
     }
     if let Some(case) = EbmlCase::read(alloc, words)? {
         return Ok(Case::Ebml(case));
@@ -88,6 +93,7 @@ fn answer(alloc: Global, line: &str) -> Result<String, Stop> {
         Case::Runs(case) => case.answer(alloc),
         Case::Names(case) => case.answer(alloc),
         Case::Slice(case) => case.answer(alloc),
+        Case::Flac(case) => case.answer(alloc),
         Case::Ebml(case) => case.answer(alloc),
         Case::Side(case) => case.answer(alloc),
         Case::Outline(case) => case.answer(alloc),

@@ -7,6 +7,7 @@ mod case;
 mod coder;
 mod dpx;
 mod ebml;
+mod flac;
 mod names;
 mod outline;
 mod pack;
