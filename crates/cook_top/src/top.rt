@@ -6,7 +6,7 @@ ghost use Rattle.cook_top.specs.Laws.{PackLaw, ObeysOrder, KeepsSealed, Shows, S
 ghost use Rattle.cook_top.specs.Orders.{order_of};
 ghost use Rattle.cook_top.specs.Orders.Order.{Pack as OrderPack, Restore as OrderRestore};
 ghost use Rattle.cook_top.specs.Printing.{FaultsRose, FaultsStay, Printed, PrintedInPart};
-ghost use Rattle.cook_top.specs.RestoreLaw.{RestoreLaw};
+ghost use Rattle.cook_top.specs.Restoring.{SealsAll, StopsRestoring};
 ghost use Rattle.cook_top.specs.Statuses.{status_of_pack_error};
 ghost use Rattle.cook_top.specs.Texts.{line_of, pack_line, restore_line};
 
@@ -30,7 +30,7 @@ fn pack_directory<S: Shelf>(
     ensures done { IfOk result (λ _. PackLaw S.Shelf shelf.old shelf.new options.rate dir.now pkg.now Status.Done) }
     ensures stopped { IfErr result (λ error. PackLaw S.Shelf shelf.old shelf.new options.rate dir.now pkg.now (status_of_pack_error error)) }
     ensures sum { IfOk result (λ sum. Tells S.Shelf shelf.old → IsSumOf (directory_of S.Shelf shelf.old dir.now) options.rate sum) }
-    ensures sealed { IfOk result (λ _. S.unsealed shelf.new ≡ S.unsealed shelf.old) }
+    ensures sealed { IfOk result (λ _. SealsAll S.Shelf shelf.old shelf.new) }
     ensures unsealed { IfErr result (λ error. KeepsSealed S.Shelf shelf.old shelf.new (status_of_pack_error error)) }
     ensures cause { let order = Some (OrderPack options.workers options.rate dir.now pkg.now) in
         (sink sink_now : ℕ) → IfErr result (λ error. ShowsFor S.Shelf order shelf.old shelf.new sink sink_now (status_of_pack_error error)) }
@@ -111,11 +111,11 @@ fn restore_order<S: Shelf, O: Sink>(
     dir: &str,
 ) -> Status
     requires { (1 ≤ workers) × (workers ≤ 64) }
-    ensures law { RestoreLaw (S.files shelf.old) (S.files shelf.new) pkg.now dir.now result }
+    ensures law { StopsRestoring S.Shelf shelf.old shelf.new pkg.now dir.now result }
     ensures sealed { KeepsSealed S.Shelf shelf.old shelf.new result }
     ensures shown { Shows S.Shelf O.Sink (Some (OrderRestore workers pkg.now dir.now)) shelf.old shelf.new out.old out.new result }
     ensures report { ReportsOrder S.Shelf O.Sink (Some (OrderRestore workers pkg.now dir.now)) shelf.old out.old out.new result }
-    ensures shelf_kept { S.faults shelf.old ≤ S.faults shelf.new }
+    ensures counts { CountsStay S.Shelf shelf.old shelf.new }
     ensures sink_kept { FaultsStay O.Sink out.old out.new }
 {
     match restore_package(alloc, shelf, workers, pkg, dir) {
