@@ -179,11 +179,10 @@ fn part(offset: u32, range: u32, state: u8) -> (bool, u32, u32)
 {
     let ones = range * u32::from(state) / 256;
     let zeros = range - ones;
-    if offset >= zeros {
-        (true, offset - zeros, ones)
-    } else {
-        (false, offset, zeros)
-    }
+    let bit = offset >= zeros;
+    let offset = if bit { offset - zeros } else { offset };
+    let range = if bit { ones } else { zeros };
+    (bit, offset, range)
 }
 
 // The first byte, or 0 where there is none, and the bytes after it.

@@ -8,7 +8,7 @@ ghost use Rattle.range_coder.specs.Symbol.{IsCodable, symbol_choices, overlong_c
 
 use crate::{BadSymbol, Decoder, Table};
 
-/// A number with a smaller exponent is coded apart from the others, with slots that are known.
+/// From so many ones on they share a slot.
 const SHORT: usize = 10;
 
 /// Reads a number with a set.
@@ -31,9 +31,6 @@ pub(crate) fn get_value(
         return Ok(0);
     }
     let exponent = get_exponent(decoder, table, set)?;
-    if exponent < SHORT {
-        return Ok(get_rest(decoder, table, set, exponent, signed));
-    }
     Ok(get_rest(decoder, table, set, exponent, signed))
 }
 
@@ -56,7 +53,7 @@ fn get_rest(
     ensures fits { FitsSigned w32 result }
     ensures live { AreLive table.now set.new }
 {
-    let magnitude = get_low_bits(decoder, table, set, exponent);
+    let magnitude = get_magnitude(decoder, table, set, exponent);
     let negative = get_sign(decoder, table, set, exponent, signed);
     with_sign(magnitude, negative)
 }
@@ -89,7 +86,35 @@ fn get_exponent(
     Err(BadSymbol)
 }
 
-// Reads the bits below the highest one, and answers the magnitude.
+// Reads the bits below the highest one, and answers the magnitude. The usual exponents each have code of their own,
+// whose slots are known.
+#[inline(always)]
+fn get_magnitude(decoder: &mut Decoder<'_>, table: &Table, set: &mut [u8], exponent: usize) -> u32
+    requires set { length set.old ≡ 32 }
+    requires live { AreLive table.now set.old }
+    requires exponent { exponent ≤ 30 }
+    ensures gets { Gets table.now decoder.old set.old decoder.new set.new (low_bits exponent result) }
+    ensures low { 2 ^ exponent ≤ result }
+    ensures high { result < 2 * 2 ^ exponent }
+    ensures live { AreLive table.now set.new }
+{
+    match exponent {
+        0 => get_low_bits(decoder, table, set, 0),
+        1 => get_low_bits(decoder, table, set, 1),
+        2 => get_low_bits(decoder, table, set, 2),
+        3 => get_low_bits(decoder, table, set, 3),
+        4 => get_low_bits(decoder, table, set, 4),
+        5 => get_low_bits(decoder, table, set, 5),
+        6 => get_low_bits(decoder, table, set, 6),
+        7 => get_low_bits(decoder, table, set, 7),
+        8 => get_low_bits(decoder, table, set, 8),
+        9 => get_low_bits(decoder, table, set, 9),
+        10 => get_low_bits(decoder, table, set, 10),
+        _ => get_low_bits(decoder, table, set, exponent),
+    }
+}
+
+// Reads so many bits below the highest one, and answers the magnitude.
 #[inline(always)]
 #[tactic(auto, using(crate::proofs::LowBits::coded_bits))]
 fn get_low_bits(decoder: &mut Decoder<'_>, table: &Table, set: &mut [u8], exponent: usize) -> u32

@@ -15,9 +15,6 @@ use cook_bits::NoMemory;
 /// The states of a set.
 const SET: usize = 32;
 
-/// A number with a smaller exponent is coded apart from the others, with slots that are known.
-const SHORT: usize = 10;
-
 /// Codes numbers one after another, each with the set that begins at its slot.
 pub(crate) fn put_line(
     window: &mut Window,
@@ -91,7 +88,7 @@ pub(crate) fn put_value(
     put_number(window, bytes, table, set, magnitude, value < 0, signed)
 }
 
-// Codes a number that isn't 0.
+// Codes a number that isn't 0. The usual exponents each have code of their own, whose slots are known.
 #[inline(always)]
 fn put_number(
     window: &mut Window,
@@ -113,14 +110,22 @@ fn put_number(
     ensures window { IsWindow bytes.new.items window.new.low window.new.range }
 {
     let exponent = exponent_of(magnitude);
-    if exponent < SHORT {
-        return put_parts(
+    match exponent {
+        0 => put_parts(window, bytes, table, set, 0, magnitude, negative, signed),
+        1 => put_parts(window, bytes, table, set, 1, magnitude, negative, signed),
+        2 => put_parts(window, bytes, table, set, 2, magnitude, negative, signed),
+        3 => put_parts(window, bytes, table, set, 3, magnitude, negative, signed),
+        4 => put_parts(window, bytes, table, set, 4, magnitude, negative, signed),
+        5 => put_parts(window, bytes, table, set, 5, magnitude, negative, signed),
+        6 => put_parts(window, bytes, table, set, 6, magnitude, negative, signed),
+        7 => put_parts(window, bytes, table, set, 7, magnitude, negative, signed),
+        8 => put_parts(window, bytes, table, set, 8, magnitude, negative, signed),
+        9 => put_parts(window, bytes, table, set, 9, magnitude, negative, signed),
+        10 => put_parts(window, bytes, table, set, 10, magnitude, negative, signed),
+        _ => put_parts(
             window, bytes, table, set, exponent, magnitude, negative, signed,
-        );
+        ),
     }
-    put_parts(
-        window, bytes, table, set, exponent, magnitude, negative, signed,
-    )
 }
 
 // Codes a number that isn't 0, whose exponent is known.

@@ -12,18 +12,13 @@ pub returns-in_err-exponent-clause-bad : goal.returns-in_err-exponent-clause-bad
 returns-in_err-exponent-clause-bad c =
     on_err _ (overlong_got _ _ _ _ _ _ _ _ c.if-get_flag_slot.false c.get_flag_slot.ensures.gets c.in_err-exponent.ensures.bad)
 
-pub returns-then-exponent-lt-SHORT-clause-ok : goal.returns-then-exponent-lt-SHORT-clause-ok
-returns-then-exponent-lt-SHORT-clause-ok c =
+pub returns-clause-ok : goal.returns-clause-ok
+returns-clause-ok c =
     let same : to_z w32 (of_z w32 c.get_rest.result) ≡ c.get_rest.result = to_z-of_z w32 c.get_rest.result c.get_rest.ensures.fits in
     rw same (value_got _ _ _ _ _ _ _ _ _ _ _ _ c.get_rest.result c.if-get_flag_slot.false c.get_rest.ensures.low c.get_rest.ensures.high c.in_ok-exponent.ensures.high c.get_flag_slot.ensures.gets c.in_ok-exponent.ensures.ok c.get_rest.ensures.gets)
 
-pub returns-clause-ok : goal.returns-clause-ok
-returns-clause-ok c =
-    let same : to_z w32 (of_z w32 c.get_rest-2.result) ≡ c.get_rest-2.result = to_z-of_z w32 c.get_rest-2.result c.get_rest-2.ensures.fits in
-    rw same (value_got _ _ _ _ _ _ _ _ _ _ _ _ c.get_rest-2.result c.if-get_flag_slot.false c.get_rest-2.ensures.low c.get_rest-2.ensures.high c.in_ok-exponent.ensures.high c.get_flag_slot.ensures.gets c.in_ok-exponent.ensures.ok c.get_rest-2.ensures.gets)
-
 pub returns-clause-codable : goal.returns-clause-codable
 returns-clause-codable c =
-    let same : to_z w32 (of_z w32 c.get_rest-2.result) ≡ c.get_rest-2.result = to_z-of_z w32 c.get_rest-2.result c.get_rest-2.ensures.fits in
-    let high = magnitude_fits _ _ c.get_rest-2.ensures.high c.in_ok-exponent.ensures.high in
-    rw same (codable _ _ _ _ refl refl high c.get_rest-2.ensures.unsigned)
+    let same : to_z w32 (of_z w32 c.get_rest.result) ≡ c.get_rest.result = to_z-of_z w32 c.get_rest.result c.get_rest.ensures.fits in
+    let high = magnitude_fits _ _ c.get_rest.ensures.high c.in_ok-exponent.ensures.high in
+    rw same (codable _ _ _ _ refl refl high c.get_rest.ensures.unsigned)
