@@ -8,89 +8,193 @@ use crate::params::{is_depth, is_picture};
 use crate::stop::Stop;
 use crate::{answer, parse};
 use ffv1_params::{Params, ParamsWhy};
-use ffv1_slice::SliceHead;
+use ffv1_slice::{Scratch, SliceHead};
 use std::alloc::Global;
 
 /// Where the parameters of a slice come from.
 #[derive(Debug, Drop)]
-enum Source {
+pub enum Source {
     Film { bits: u8, width: u32, height: u32 },
     Record(Vec<u8>),
 }
 
-/// A case of slices: a head and a tile that are coded.
+/// A case of slices: a head and a tile that are coded, or bytes that are read.
 #[derive(Debug, Drop)]
-pub struct SliceCase {
-    source: Source,
-    first: bool,
-    head: SliceHead,
-    width: u32,
-    height: u32,
-    tile: Vec<u16>,
+pub enum SliceCase {
+    Encode {
+        source: Source,
+        first: bool,
+        head: SliceHead,
+        width: u32,
+        height: u32,
+        tile: Vec<u16>,
+    },
+    Decode {
+        source: Source,
+        first: bool,
+        width: u32,
+        height: u32,
+        coded: Vec<u8>,
+    },
 }
 
 impl SliceCase {
     /// The case that the words say, if it is one of these.
     pub fn read(alloc: Global, words: &[&str]) -> Result<Option<SliceCase>, Stop> {
-        let (source, rest) = match words {
+        let case = match words {
             ["slice", bits, width, height, rest @ ..] => {
-                let source = Source::Film {
-                    bits: parse::number(bits)?,
-                    width: parse::number(width)?,
-                    height: parse::number(height)?,
-                };
-                (source, rest)
+                written(alloc, film(bits, width, height)?, rest)?
             }
-            ["slice_of", record, rest @ ..] => (Source::Record(parse::bytes(alloc, record)?), rest),
+            ["slice_of", record, rest @ ..] => written(alloc, recorded(alloc, record)?, rest)?,
+            ["tile", bits, width, height, rest @ ..] => {
+                coded(alloc, film(bits, width, height)?, rest)?
+            }
+            ["tile_of", record, rest @ ..] => coded(alloc, recorded(alloc, record)?, rest)?,
             _ => return Ok(None),
         };
-        let [
-            first,
-            x,
-            y,
-            columns,
-            rows,
-            luma,
-            difference,
-            width,
-            height,
-            tile,
-        ] = rest
-        else {
-            return Err(Stop::Unreadable);
-        };
-        let head = SliceHead {
-            x: parse::number(x)?,
-            y: parse::number(y)?,
-            columns: parse::number(columns)?,
-            rows: parse::number(rows)?,
-            indices: [parse::number(luma)?, parse::number(difference)?],
-        };
-        Ok(Some(SliceCase {
-            source,
-            first: parse::switch(first)?,
-            head,
-            width: parse::number(width)?,
-            height: parse::number(height)?,
-            tile: parse::numbers(alloc, tile)?,
-        }))
+        Ok(Some(case))
     }
 
     /// Makes the call and tells its answer.
     pub fn answer(&self, alloc: Global) -> Result<String, Stop> {
-        let params = params_of(alloc, &self.source)?;
-        let (width, height) = (self.width, self.height);
-        let tile = self.tile.as_slice();
-        if width < 1 || width > 16384 || height < 1 || height > 16384 {
-            return Err(Stop::OutOfRange);
+        match self {
+            SliceCase::Encode {
+                source,
+                first,
+                head,
+                width,
+                height,
+                tile,
+            } => {
+                let params = params_of(alloc, source)?;
+                encoded(alloc, &params, head, *width, *height, *first, tile.as_slice())
+            }
+            SliceCase::Decode {
+                source,
+                first,
+                width,
+                height,
+                coded,
+            } => {
+                let params = params_of(alloc, source)?;
+                decoded(alloc, &params, *width, *height, *first, coded.as_slice())
+            }
         }
-        if !is_inside(&params, &self.head) || !is_tile(&params, width, height, tile) {
-            return Err(Stop::OutOfRange);
+    }
+}
+
+fn film(bits: &str, width: &str, height: &str) -> Result<Source, Stop> {
+    Ok(Source::Film {
+        bits: parse::number(bits)?,
+        width: parse::number(width)?,
+        height: parse::number(height)?,
+    })
+}
+
+fn recorded(alloc: Global, record: &str) -> Result<Source, Stop> {
+    Ok(Source::Record(parse::bytes(alloc, record)?))
+}
+
+fn written(alloc: Global, source: Source, words: &[&str]) -> Result<SliceCase, Stop> {
+    let [
+        first,
+        x,
+        y,
+        columns,
+        rows,
+        luma,
+        difference,
+        width,
+        height,
+        tile,
+    ] = words
+    else {
+        return Err(Stop::Unreadable);
+    };
+    let head = SliceHead {
+        x: parse::number(x)?,
+        y: parse::number(y)?,
+        columns: parse::number(columns)?,
+        rows: parse::number(rows)?,
+        indices: [parse::number(luma)?, parse::number(difference)?],
+    };
+    Ok(SliceCase::Encode {
+        source,
+        first: parse::switch(first)?,
+        head,
+        width: parse::number(width)?,
+        height: parse::number(height)?,
+        tile: parse::numbers(alloc, tile)?,
+    })
+}
+
+fn coded(alloc: Global, source: Source, words: &[&str]) -> Result<SliceCase, Stop> {
+    let [first, width, height, coded] = words else {
+        return Err(Stop::Unreadable);
+    };
+    Ok(SliceCase::Decode {
+        source,
+        first: parse::switch(first)?,
+        width: parse::number(width)?,
+        height: parse::number(height)?,
+        coded: parse::bytes(alloc, coded)?,
+    })
+}
+
+fn encoded(
+    alloc: Global,
+    params: &Params,
+    head: &SliceHead,
+    width: u32,
+    height: u32,
+    first: bool,
+    tile: &[u16],
+) -> Result<String, Stop> {
+    if width < 1 || width > 16384 || height < 1 || height > 16384 {
+        return Err(Stop::OutOfRange);
+    }
+    if !is_inside(params, head) || !is_tile(params, width, height, tile) {
+        return Err(Stop::OutOfRange);
+    }
+    let coded = ffv1_slice::encode(alloc, params, head, width, height, first, tile)?;
+    answer::bytes(alloc, coded.as_slice())
+}
+
+fn decoded(
+    alloc: Global,
+    params: &Params,
+    width: u32,
+    height: u32,
+    first: bool,
+    coded: &[u8],
+) -> Result<String, Stop> {
+    if width < 1 || width > 16384 || height < 1 || height > 16384 {
+        return Err(Stop::OutOfRange);
+    }
+    let mut scratch = Scratch::new(alloc, params.most_contexts(), width)?;
+    let samples = 3 * (width as usize * height as usize);
+    let mut tile = vec![in alloc; 0u16; samples]?;
+    match ffv1_slice::decode(
+        params,
+        coded,
+        width,
+        height,
+        first,
+        tile.as_mut_slice(),
+        &mut scratch,
+    ) {
+        Ok(head) => {
+            let SliceHead {
+                x,
+                y,
+                columns,
+                rows,
+                indices: [luma, difference],
+            } = head;
+            let tile = answer::samples(alloc, tile.as_slice())?;
+            Ok(format!(in alloc; "{x} {y} {columns} {rows} {luma} {difference} {tile}")?)
         }
-        let coded = ffv1_slice::encode(
-            alloc, &params, &self.head, width, height, self.first, tile,
-        )?;
-        answer::bytes(alloc, coded.as_slice())
+        Err(why) => Ok(format!(in alloc; "{why:?}")?),
     }
 }
 

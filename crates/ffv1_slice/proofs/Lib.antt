@@ -6,6 +6,7 @@ pub mod Codings
 pub mod Depths
 pub mod Encoded
 pub mod Encoding
+pub mod Flat
 pub mod Folding
 pub mod Fronts
 pub mod Headers

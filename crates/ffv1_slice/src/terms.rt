@@ -1,7 +1,8 @@
 // What the samples around a sample tell of it: a prediction, and the context of its difference.
 
-ghost use Rattle.std.specs.Prelude.{◌≡◌, ℕ, ◌+◌, ◌-◌, ◌*◌, ◌%◌, ◌^◌, ◌<◌, ◌≤◌, length, max, pos, unsigned_abs, slice_index, ◌+ℤ◌};
+ghost use Rattle.std.specs.Prelude.{◌≡◌, ℕ, ◌+◌, ◌-◌, ◌*◌, ◌%◌, ◌^◌, ◌<◌, ◌≤◌, length, max, pos, unsigned_abs, slice_index, IsTrue, ◌+ℤ◌};
 ghost use Rattle.std.specs.Int.{is_negative, int_rem_euclid};
+ghost use Rattle.ffv1_params.specs.QuantTables.{AreFlat};
 ghost use Rattle.ffv1_slice.specs.Below.{IsBelow, IsHalf};
 ghost use Rattle.ffv1_slice.specs.Plane.{around, prediction, context, step, value_at, folded, difference, restored};
 
@@ -88,6 +89,36 @@ pub(crate) fn context_of(values: &[i16], around: Around) -> i32
     let sum = added(sum, value_of(values, 2, around.above, around.above_right));
     let sum = added(sum, value_of(values, 3, around.left_left, around.left));
     added(sum, value_of(values, 4, around.above_above, around.above))
+}
+
+// The context where the last two tables have no value but 0.
+#[inline(always)]
+fn flat_context_of(values: &[i16], around: Around) -> i32
+    requires long { length values.now ≡ 1280 }
+    requires below { IsBelow 262144 around }
+    requires flat { AreFlat values.now }
+    ensures context { result ≡ context values.now around }
+    ensures small { unsigned_abs result ≤ 163840 }
+{
+    let sum = value_of(values, 0, around.left, around.above_left);
+    let sum = added(sum, value_of(values, 1, around.above_left, around.above));
+    added(sum, value_of(values, 2, around.above, around.above_right))
+}
+
+/// The context, with its sign: by three values where the last two are always 0.
+#[inline(always)]
+pub(crate) fn context_by(values: &[i16], flat: bool, around: Around) -> i32
+    requires long { length values.now ≡ 1280 }
+    requires below { IsBelow 262144 around }
+    requires flat { IsTrue flat → AreFlat values.now }
+    ensures context { result ≡ context values.now around }
+    ensures small { unsigned_abs result ≤ 163840 }
+{
+    if flat {
+        flat_context_of(values, around)
+    } else {
+        context_of(values, around)
+    }
 }
 
 // A difference modulo 2 * half, folded into -half to half - 1.
