@@ -6,6 +6,7 @@ pub mod Depths
 pub mod Encoded
 pub mod Encoding
 pub mod Folding
+pub mod Flat
 pub mod Fronts
 pub mod Headers
 pub mod HeadsRead
@@ -18,6 +19,7 @@ pub mod Parting
 pub mod Pixels
 pub mod Placing
 pub mod PlanesRead
+pub mod Residues
 pub mod Restoring
 pub mod Rooms
 pub mod RowFaults

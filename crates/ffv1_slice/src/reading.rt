@@ -1,8 +1,8 @@
 // Lines of samples read from coded bytes.
 
-ghost use Rattle.std.specs.Prelude.{◌≡◌, ◌+◌, ◌*◌, ◌<◌, ◌≤◌, length, slice_index, OnOk, OnErr};
+ghost use Rattle.std.specs.Prelude.{◌≡◌, ◌+◌, ◌*◌, ◌<◌, ◌≤◌, length, slice_index, IsTrue, OnOk, OnErr};
 ghost use Rattle.range_coder.specs.Table.{AreLive};
-ghost use Rattle.ffv1_params.specs.QuantTables.{most_contexts};
+ghost use Rattle.ffv1_params.specs.QuantTables.{AreFlat, most_contexts};
 ghost use Rattle.ffv1_slice.specs.Below.{AreBelow, IsHalf};
 ghost use Rattle.ffv1_slice.specs.Got.{GetsLine, LineFails, PlaneGot, PlaneFails, RowGot, RowFails};
 ghost use Rattle.ffv1_slice.specs.Planes.{AreReady};
@@ -20,13 +20,15 @@ use range_coder::{BadSymbol, Decoder, Table};
 const LUMA_SLOT: u32 = 33;
 
 // Reads a line of a plane, the last of three lines, and writes its borders.
+#[inline(always)]
 #[tactic(auto, using(crate::proofs::SamplesRead::reading))]
-fn decode_line(
+fn decode_samples(
     decoder: &mut Decoder<'_>,
     table: &Table,
     states: &mut [u8],
     half: u32,
     values: &[i16],
+    flat: bool,
     first: u32,
     above2: &[u32],
     above: &[u32],
@@ -36,6 +38,7 @@ fn decode_line(
     requires half { IsHalf half }
     requires some { 1 ≤ width }
     requires live { AreLive table.now states.old }
+    requires flat { IsTrue flat → AreFlat values.now }
     requires slots { AreSlots values.now first (length states.old) }
     requires above2_long { width + 3 ≤ length above2.now }
     requires above_long { width + 3 ≤ length above.now }
@@ -50,13 +53,59 @@ fn decode_line(
     line[1] = above[2];
     for x in 0..width {
         let around = around_in(above2, above, line, x);
-        let context = context_of(values, around);
+        let context = context_of(values, flat, around);
         let slot = first + 32 * context.unsigned_abs();
         let value = decoder.get_symbol_at(table, states, slot as usize, true)?;
         line[x + 2] = restored_of(half, context < 0, predicted(around), value);
     }
     line[width + 2] = line[width + 1];
     Ok(())
+}
+
+// The same, with a reader in a local variable, so that its numbers can stand in registers.
+fn decode_line(
+    decoder: &mut Decoder<'_>,
+    table: &Table,
+    states: &mut [u8],
+    half: u32,
+    values: &[i16],
+    flat: bool,
+    first: u32,
+    above2: &[u32],
+    above: &[u32],
+    line: &mut [u32],
+    width: usize,
+) -> Result<(), BadSymbol>
+    requires half { IsHalf half }
+    requires some { 1 ≤ width }
+    requires live { AreLive table.now states.old }
+    requires flat { IsTrue flat → AreFlat values.now }
+    requires slots { AreSlots values.now first (length states.old) }
+    requires above2_long { width + 3 ≤ length above2.now }
+    requires above_long { width + 3 ≤ length above.now }
+    requires line_long { width + 3 ≤ length line.old }
+    requires above2 { AreBelow (2 * half) above2.now }
+    requires above { AreBelow (2 * half) above.now }
+    requires line { AreBelow (2 * half) line.old }
+    ensures ok { OnOk result (GetsLine table.now decoder.old states.old decoder.new states.new half values.now first above2.now above.now line.new width) }
+    ensures err { OnErr result (LineFails table.now decoder.old states.old decoder.new states.new half values.now first above2.now above.now line.new width) }
+{
+    let mut reader = decoder.copied();
+    let read = decode_samples(
+        &mut reader,
+        table,
+        states,
+        half,
+        values,
+        flat,
+        first,
+        above2,
+        above,
+        line,
+        width,
+    );
+    *decoder = reader;
+    read
 }
 
 // Takes a plane a line down, and reads the line.
@@ -66,6 +115,7 @@ fn decode_plane(
     states: &mut [u8],
     half: u32,
     values: &[i16],
+    flat: bool,
     first: u32,
     lines: &mut Lines,
     width: usize,
@@ -73,6 +123,7 @@ fn decode_plane(
     requires half { IsHalf half }
     requires some { 1 ≤ width }
     requires live { AreLive table.now states.old }
+    requires flat { IsTrue flat → AreFlat values.now }
     requires slots { AreSlots values.now first (length states.old) }
     requires lines { AreReady width (2 * half) lines.old }
     ensures ok { OnOk result (PlaneGot table.now decoder.old states.old decoder.new states.new half values.now first width lines.old lines.new) }
@@ -86,6 +137,7 @@ fn decode_plane(
         states,
         half,
         values,
+        flat,
         first,
         lines.above2.as_slice(),
         lines.above.as_slice(),
@@ -120,24 +172,28 @@ pub(crate) fn decode_planes(
 {
     let table = params.table();
     let luma = params.values(head.indices[0]);
+    let luma_flat = params.is_flat(head.indices[0]);
     decode_plane(
         decoder,
         table,
         states,
         half,
         luma,
+        luma_flat,
         LUMA_SLOT,
         &mut planes.luma,
         width,
     )?;
     let first = LUMA_SLOT + 32 * params.most_contexts();
     let differences = params.values(head.indices[1]);
+    let differences_flat = params.is_flat(head.indices[1]);
     decode_plane(
         decoder,
         table,
         states,
         half,
         differences,
+        differences_flat,
         first,
         &mut planes.blue,
         width,
@@ -148,6 +204,7 @@ pub(crate) fn decode_planes(
         states,
         half,
         differences,
+        differences_flat,
         first,
         &mut planes.red,
         width,

@@ -4,7 +4,7 @@ use Rattle.std.specs.Int.{is_negative}
 use Rattle.ffv1_slice.specs.Plane.{context, prediction, slot_in}
 use Rattle.ffv1_slice.specs.Work.{around_lines}
 use Rattle.ffv1_slice.proofs.SamplesRead.{sample_got, sample_fails, line_got_at, restored_as, on_err}
-use Rattle.ffv1_slice.proofs.reading.decode_line.Goals as goal
+use Rattle.ffv1_slice.proofs.reading.decode_samples.Goals as goal
 
 pub returns-in_err-value-clause-err : goal.returns-in_err-value-clause-err
 returns-in_err-value-clause-err c =
