@@ -5,8 +5,8 @@ pub mod Codings
 pub mod Depths
 pub mod Encoded
 pub mod Encoding
-pub mod Folding
 pub mod Flat
+pub mod Folding
 pub mod Fronts
 pub mod Headers
 pub mod HeadsRead

@@ -33,7 +33,7 @@ most_within (set ∷ more) all =
     let rest : most_contexts more ≤ 32768 = most_within more (All-tail TellsContexts set more all) in
     omega arith
 
-step_small : (p q : ℕ) → step p q < 256
+pub step_small : (p q : ℕ) → step p q < 256
 step_small p q = mod-lt (p + (256 - q % 256)) {m = 256} (omega arith)
 
 -- the context of a set
