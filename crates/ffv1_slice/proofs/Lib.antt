@@ -20,6 +20,7 @@ pub mod Parting
 pub mod Pixels
 pub mod Placing
 pub mod PlanesRead
+pub mod Residues
 pub mod Restoring
 pub mod Rooms
 pub mod RowFaults

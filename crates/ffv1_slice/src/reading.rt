@@ -2,7 +2,7 @@
 
 ghost use Rattle.std.specs.Prelude.{◌≡◌, ◌+◌, ◌*◌, ◌<◌, ◌≤◌, length, slice_index, IsTrue, OnOk, OnErr};
 ghost use Rattle.range_coder.specs.Table.{AreLive};
-ghost use Rattle.ffv1_params.specs.QuantTables.{most_contexts, AreFlat};
+ghost use Rattle.ffv1_params.specs.QuantTables.{AreFlat, most_contexts};
 ghost use Rattle.ffv1_slice.specs.Below.{AreBelow, IsHalf};
 ghost use Rattle.ffv1_slice.specs.Got.{GetsLine, LineFails, PlaneGot, PlaneFails, RowGot, RowFails};
 ghost use Rattle.ffv1_slice.specs.Planes.{AreReady};
@@ -12,7 +12,7 @@ ghost use Rattle.ffv1_slice.specs.Work.{AreSlots};
 
 use crate::SliceHead;
 use crate::lines::{Lines, Planes};
-use crate::terms::{around_in, context_by, predicted, restored_of};
+use crate::terms::{around_in, context_of, predicted, restored_of};
 use ffv1_params::Params;
 use range_coder::{BadSymbol, Decoder, Table};
 
@@ -20,8 +20,9 @@ use range_coder::{BadSymbol, Decoder, Table};
 const LUMA_SLOT: u32 = 33;
 
 // Reads a line of a plane, the last of three lines, and writes its borders.
+#[inline(always)]
 #[tactic(auto, using(crate::proofs::SamplesRead::reading))]
-fn decode_line(
+fn decode_samples(
     decoder: &mut Decoder<'_>,
     table: &Table,
     states: &mut [u8],
@@ -52,13 +53,59 @@ fn decode_line(
     line[1] = above[2];
     for x in 0..width {
         let around = around_in(above2, above, line, x);
-        let context = context_by(values, flat, around);
+        let context = context_of(values, flat, around);
         let slot = first + 32 * context.unsigned_abs();
         let value = decoder.get_symbol_at(table, states, slot as usize, true)?;
         line[x + 2] = restored_of(half, context < 0, predicted(around), value);
     }
     line[width + 2] = line[width + 1];
     Ok(())
+}
+
+// The same, with a reader in a local variable, so that its numbers can stand in registers.
+fn decode_line(
+    decoder: &mut Decoder<'_>,
+    table: &Table,
+    states: &mut [u8],
+    half: u32,
+    values: &[i16],
+    flat: bool,
+    first: u32,
+    above2: &[u32],
+    above: &[u32],
+    line: &mut [u32],
+    width: usize,
+) -> Result<(), BadSymbol>
+    requires half { IsHalf half }
+    requires some { 1 ≤ width }
+    requires live { AreLive table.now states.old }
+    requires flat { IsTrue flat → AreFlat values.now }
+    requires slots { AreSlots values.now first (length states.old) }
+    requires above2_long { width + 3 ≤ length above2.now }
+    requires above_long { width + 3 ≤ length above.now }
+    requires line_long { width + 3 ≤ length line.old }
+    requires above2 { AreBelow (2 * half) above2.now }
+    requires above { AreBelow (2 * half) above.now }
+    requires line { AreBelow (2 * half) line.old }
+    ensures ok { OnOk result (GetsLine table.now decoder.old states.old decoder.new states.new half values.now first above2.now above.now line.new width) }
+    ensures err { OnErr result (LineFails table.now decoder.old states.old decoder.new states.new half values.now first above2.now above.now line.new width) }
+{
+    let mut reader = decoder.copied();
+    let read = decode_samples(
+        &mut reader,
+        table,
+        states,
+        half,
+        values,
+        flat,
+        first,
+        above2,
+        above,
+        line,
+        width,
+    );
+    *decoder = reader;
+    read
 }
 
 // Takes a plane a line down, and reads the line.
@@ -139,14 +186,14 @@ pub(crate) fn decode_planes(
     )?;
     let first = LUMA_SLOT + 32 * params.most_contexts();
     let differences = params.values(head.indices[1]);
-    let flat = params.is_flat(head.indices[1]);
+    let differences_flat = params.is_flat(head.indices[1]);
     decode_plane(
         decoder,
         table,
         states,
         half,
         differences,
-        flat,
+        differences_flat,
         first,
         &mut planes.blue,
         width,
@@ -157,7 +204,7 @@ pub(crate) fn decode_planes(
         states,
         half,
         differences,
-        flat,
+        differences_flat,
         first,
         &mut planes.red,
         width,

@@ -1,6 +1,6 @@
 // What the samples around a sample tell of it: a prediction, and the context of its difference.
 
-ghost use Rattle.std.specs.Prelude.{◌≡◌, ℕ, ◌+◌, ◌-◌, ◌*◌, ◌%◌, ◌^◌, ◌<◌, ◌≤◌, length, max, pos, unsigned_abs, slice_index, IsTrue, ◌+ℤ◌};
+ghost use Rattle.std.specs.Prelude.{◌≡◌, ℕ, ◌+◌, ◌-◌, ◌*◌, ◌%◌, ◌^◌, ◌<◌, ◌≤◌, length, max, pos, unsigned_abs, slice_index, ◌+ℤ◌, IsTrue};
 ghost use Rattle.std.specs.Int.{is_negative, int_rem_euclid};
 ghost use Rattle.ffv1_params.specs.QuantTables.{AreFlat};
 ghost use Rattle.ffv1_slice.specs.Below.{IsBelow, IsHalf};
@@ -75,11 +75,12 @@ fn added(a: i32, b: i32) -> i32
     a + b
 }
 
-/// The context, with its sign.
+/// The context, with its sign. Where the last two tables are flat, three terms do.
 #[inline(always)]
-#[tactic(auto, unfolding(crate::specs::Plane::context))]
-pub(crate) fn context_of(values: &[i16], around: Around) -> i32
+#[tactic(auto, using(crate::proofs::Flat::flat), unfolding(crate::specs::Plane::context))]
+pub(crate) fn context_of(values: &[i16], flat: bool, around: Around) -> i32
     requires long { length values.now ≡ 1280 }
+    requires flat { IsTrue flat → AreFlat values.now }
     requires below { IsBelow 262144 around }
     ensures context { result ≡ context values.now around }
     ensures small { unsigned_abs result ≤ 163840 }
@@ -87,38 +88,11 @@ pub(crate) fn context_of(values: &[i16], around: Around) -> i32
     let sum = value_of(values, 0, around.left, around.above_left);
     let sum = added(sum, value_of(values, 1, around.above_left, around.above));
     let sum = added(sum, value_of(values, 2, around.above, around.above_right));
+    if flat {
+        return sum;
+    }
     let sum = added(sum, value_of(values, 3, around.left_left, around.left));
     added(sum, value_of(values, 4, around.above_above, around.above))
-}
-
-// The context where the last two tables have no value but 0.
-#[inline(always)]
-fn flat_context_of(values: &[i16], around: Around) -> i32
-    requires long { length values.now ≡ 1280 }
-    requires below { IsBelow 262144 around }
-    requires flat { AreFlat values.now }
-    ensures context { result ≡ context values.now around }
-    ensures small { unsigned_abs result ≤ 163840 }
-{
-    let sum = value_of(values, 0, around.left, around.above_left);
-    let sum = added(sum, value_of(values, 1, around.above_left, around.above));
-    added(sum, value_of(values, 2, around.above, around.above_right))
-}
-
-/// The context, with its sign: by three values where the last two are always 0.
-#[inline(always)]
-pub(crate) fn context_by(values: &[i16], flat: bool, around: Around) -> i32
-    requires long { length values.now ≡ 1280 }
-    requires below { IsBelow 262144 around }
-    requires flat { IsTrue flat → AreFlat values.now }
-    ensures context { result ≡ context values.now around }
-    ensures small { unsigned_abs result ≤ 163840 }
-{
-    if flat {
-        flat_context_of(values, around)
-    } else {
-        context_of(values, around)
-    }
 }
 
 // A difference modulo 2 * half, folded into -half to half - 1.
@@ -155,8 +129,9 @@ pub(crate) fn difference_of(half: u32, negative: bool, prediction: u32, sample: 
     }
 }
 
-// What is left of a value, divided by `whole`.
+// What is left of a value, divided by `whole`. Most values need no division.
 #[inline(always)]
+#[tactic(auto, using(crate::proofs::Residues::residues))]
 fn residue_of(whole: u32, value: i32) -> u32
     requires some { 0 < whole }
     requires most { whole ≤ 131072 }
@@ -164,7 +139,14 @@ fn residue_of(whole: u32, value: i32) -> u32
     ensures value { result ≡ unsigned_abs (int_rem_euclid value (pos whole)) }
     ensures below { result < whole }
 {
-    value.rem_euclid(whole as i32) as u32
+    let least = whole as i32;
+    if 0 <= value && value < least {
+        return value as u32;
+    }
+    if -least <= value && value < 0 {
+        return (value + least) as u32;
+    }
+    value.rem_euclid(least) as u32
 }
 
 #[inline(always)]

@@ -1,10 +1,10 @@
 // A tile coded as a slice.
 
-ghost use Rattle.std.specs.Prelude.{◌≡◌, ◌+◌, ◌*◌, ◌^◌, ◌≤◌, length, OnOk, IfOk};
+ghost use Rattle.std.specs.Prelude.{◌≡◌, ◌+◌, ◌*◌, ◌^◌, ◌≤◌, length, IsTrue, OnOk, IfOk};
 ghost use Rattle.range_coder.specs.Coding.{Puts};
 ghost use Rattle.range_coder.specs.Interval.{coded};
 ghost use Rattle.range_coder.specs.Table.{AreLive};
-ghost use Rattle.ffv1_params.specs.QuantTables.{most_contexts};
+ghost use Rattle.ffv1_params.specs.QuantTables.{AreFlat, most_contexts};
 ghost use Rattle.ffv1_slice.specs.Below.{IsHalf};
 ghost use Rattle.ffv1_slice.specs.Blank.{IsBlank};
 ghost use Rattle.ffv1_slice.specs.Colour.{samples_of};
@@ -39,12 +39,14 @@ fn encode_plane(
     states: &mut [u8],
     half: u32,
     values: &[i16],
+    flat: bool,
     first: u32,
     lines: &Lines,
     symbols: &mut [Placed],
 ) -> Result<(), NoMemory>
     requires half { IsHalf half }
     requires live { AreLive table.now states.old }
+    requires flat { IsTrue flat → AreFlat values.now }
     requires slots { AreSlots values.now first (length states.old) }
     requires lines { AreReady (length symbols.old) (2 * half) lines.now }
     ensures ok { OnOk result (Puts table.now encoder.old states.old encoder.new states.new (choices_of_line half values.now first lines.now.above2.items lines.now.above.items lines.now.line.items (length symbols.old))) }
@@ -53,6 +55,7 @@ fn encode_plane(
     place_line(
         half,
         values,
+        flat,
         first,
         lines.above2.as_slice(),
         lines.above.as_slice(),
@@ -85,24 +88,28 @@ fn encode_planes(
 {
     let table = params.table();
     let luma = params.values(head.indices[0]);
+    let luma_flat = params.is_flat(head.indices[0]);
     encode_plane(
         encoder,
         table,
         states,
         half,
         luma,
+        luma_flat,
         LUMA_SLOT,
         &planes.luma,
         symbols,
     )?;
     let first = LUMA_SLOT + 32 * params.most_contexts();
     let differences = params.values(head.indices[1]);
+    let differences_flat = params.is_flat(head.indices[1]);
     encode_plane(
         encoder,
         table,
         states,
         half,
         differences,
+        differences_flat,
         first,
         &planes.blue,
         symbols,
@@ -113,6 +120,7 @@ fn encode_planes(
         states,
         half,
         differences,
+        differences_flat,
         first,
         &planes.red,
         symbols,

@@ -7,8 +7,7 @@ ghost use Rattle.range_coder.specs.Encoding.{number_in, spare_in};
 use cook_bits::NoMemory;
 
 /// Adds a digit to the base 256 at the end, which may have a carry to the bytes before it. After a
-/// refusal the bytes are unchanged. It is not inlined, so that the loops around it keep their numbers in registers.
-#[inline(never)]
+/// refusal the bytes are unchanged.
 pub(crate) fn push_digit(bytes: &mut Vec<u8>, digit: u32) -> Result<(), NoMemory>
     requires digit { digit < 512 }
     requires room { number_in bytes.old.items * 256 + digit < 256 ^ (length bytes.old.items + 1) }

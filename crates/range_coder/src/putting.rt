@@ -115,6 +115,36 @@ fn put_number(
         1 => put_parts(window, bytes, table, set, 1, magnitude, negative, signed),
         2 => put_parts(window, bytes, table, set, 2, magnitude, negative, signed),
         3 => put_parts(window, bytes, table, set, 3, magnitude, negative, signed),
+        _ => put_large(
+            window, bytes, table, set, exponent, magnitude, negative, signed,
+        ),
+    }
+}
+
+// Codes a number of a larger exponent, with many bits, for which a call is cheap.
+#[inline(never)]
+fn put_large(
+    window: &mut Window,
+    bytes: &mut Vec<u8>,
+    table: &Table,
+    set: &mut [u8],
+    exponent: usize,
+    magnitude: u32,
+    negative: bool,
+    signed: bool,
+) -> Result<(), NoMemory>
+    requires set { length set.old ≡ 32 }
+    requires live { AreLive table.now set.old }
+    requires exponent { exponent ≡ exponent_of magnitude }
+    requires high { exponent < 32 }
+    requires window { IsWindow bytes.old.items window.old.low window.old.range }
+    ensures ok { OnOk result (PutsIn table.now window.old bytes.old set.old window.new bytes.new set.new (magnitude_choices magnitude negative signed)) }
+    ensures err { OnErr result (FrontIn table.now window.old bytes.old set.old window.new bytes.new set.new (magnitude_choices magnitude negative signed)) }
+    ensures live { AreLive table.now set.new }
+    ensures closed { IsClosed table.now }
+    ensures window { IsWindow bytes.new.items window.new.low window.new.range }
+{
+    match exponent {
         4 => put_parts(window, bytes, table, set, 4, magnitude, negative, signed),
         5 => put_parts(window, bytes, table, set, 5, magnitude, negative, signed),
         6 => put_parts(window, bytes, table, set, 6, magnitude, negative, signed),
@@ -122,6 +152,7 @@ fn put_number(
         8 => put_parts(window, bytes, table, set, 8, magnitude, negative, signed),
         9 => put_parts(window, bytes, table, set, 9, magnitude, negative, signed),
         10 => put_parts(window, bytes, table, set, 10, magnitude, negative, signed),
+        11 => put_parts(window, bytes, table, set, 11, magnitude, negative, signed),
         _ => put_parts(
             window, bytes, table, set, exponent, magnitude, negative, signed,
         ),

@@ -4,21 +4,21 @@ use Rattle.std.specs.Int.{is_negative}
 use Rattle.ffv1_slice.specs.Plane.{context, prediction, slot_in}
 use Rattle.ffv1_slice.specs.Work.{around_lines}
 use Rattle.ffv1_slice.proofs.SamplesRead.{sample_got, sample_fails, line_got_at, restored_as, on_err}
-use Rattle.ffv1_slice.proofs.reading.decode_line.Goals as goal
+use Rattle.ffv1_slice.proofs.reading.decode_samples.Goals as goal
 
 pub returns-in_err-value-clause-err : goal.returns-in_err-value-clause-err
 returns-in_err-value-clause-err c =
-    let f : SFits w32 c.context_by-context.result = search rules in
-    let z : to_z w32 (of_z w32 c.context_by-context.result) ≡ c.context_by-context.result = to_z-of_z w32 c.context_by-context.result f in
-    let e : c.context_by-context.result ≡ context c.args.values.now (around_lines c.args.above2.now c.args.above.now c.loop-x.line c.loop-x.x) = c.context_by-context.ensures.context ∙ ap (context c.args.values.now) c.around_in-around.ensures in
+    let f : SFits w32 c.context_of-context.result = search rules in
+    let z : to_z w32 (of_z w32 c.context_of-context.result) ≡ c.context_of-context.result = to_z-of_z w32 c.context_of-context.result f in
+    let e : c.context_of-context.result ≡ context c.args.values.now (around_lines c.args.above2.now c.args.above.now c.loop-x.line c.loop-x.x) = c.context_of-context.ensures.context ∙ ap (context c.args.values.now) c.around_in-around.ensures in
     let slot : c.args.first + 32 * c.unsigned_abs.result ≡ slot_in c.args.first (context c.args.values.now (around_lines c.args.above2.now c.args.above.now c.loop-x.line c.loop-x.x)) = ap (λ (n : ℕ). c.args.first + 32 * n) (c.unsigned_abs.ensures.value ∙ ap unsigned_abs (z ∙ e)) in
     on_err _ _ (sample_fails _ _ _ _ _ _ _ _ _ _ _ _ _ c.loop-x.x _ _ c.loop-x.invariant (omega arith) slot c.in_err-value.ensures.bad)
 
 pub loop-x-preserved : goal.loop-x-preserved
 loop-x-preserved c =
-    let f : SFits w32 c.context_by-context.result = search rules in
-    let z : to_z w32 (of_z w32 c.context_by-context.result) ≡ c.context_by-context.result = to_z-of_z w32 c.context_by-context.result f in
-    let e : c.context_by-context.result ≡ context c.args.values.now (around_lines c.args.above2.now c.args.above.now c.loop-x.line c.loop-x.x) = c.context_by-context.ensures.context ∙ ap (context c.args.values.now) c.around_in-around.ensures in
+    let f : SFits w32 c.context_of-context.result = search rules in
+    let z : to_z w32 (of_z w32 c.context_of-context.result) ≡ c.context_of-context.result = to_z-of_z w32 c.context_of-context.result f in
+    let e : c.context_of-context.result ≡ context c.args.values.now (around_lines c.args.above2.now c.args.above.now c.loop-x.line c.loop-x.x) = c.context_of-context.ensures.context ∙ ap (context c.args.values.now) c.around_in-around.ensures in
     let slot : c.args.first + 32 * c.unsigned_abs.result ≡ slot_in c.args.first (context c.args.values.now (around_lines c.args.above2.now c.args.above.now c.loop-x.line c.loop-x.x)) = ap (λ (n : ℕ). c.args.first + 32 * n) (c.unsigned_abs.ensures.value ∙ ap unsigned_abs (z ∙ e)) in
     let g : SFits w32 c.in_ok-value.value = search rules in
     sample_got _ _ _ _ _ _ _ _ _ _ _ _ _ c.loop-x.x c.in_ok-value.value _ c.restored_of.result c.loop-x.invariant slot c.in_ok-value.ensures.ok c.in_ok-value.ensures.codable

@@ -1,5 +1,5 @@
 use Rattle.ffv1_slice.specs.Got.{GetsSamples}
-use Rattle.ffv1_slice.proofs.reading.decode_line.Given as goal
+use Rattle.ffv1_slice.proofs.reading.decode_samples.Given as goal
 
 abbrev pub invariant-loop-x : goal.invariant-loop-x
 invariant-loop-x l =
