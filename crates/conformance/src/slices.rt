@@ -67,7 +67,15 @@ impl SliceCase {
                 tile,
             } => {
                 let params = params_of(alloc, source)?;
-                encoded(alloc, &params, head, *width, *height, *first, tile.as_slice())
+                encoded(
+                    alloc,
+                    &params,
+                    head,
+                    *width,
+                    *height,
+                    *first,
+                    tile.as_slice(),
+                )
             }
             SliceCase::Decode {
                 source,
