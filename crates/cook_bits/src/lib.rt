@@ -18,6 +18,3 @@ pub use crc::{Crc32Ebml, crc8, crc16, crc32_ebml, crc32_high};
 pub use memory::NoMemory;
 pub use name::Name;
 pub use names::{MOST_NAME_BYTES, Named, full_name, holds_folder_of, is_relative_name};
-
-#[cfg(test)]
-mod tests;

@@ -18,6 +18,3 @@ pub use block::Block;
 pub use error::FlacWhy;
 pub use frame::decode;
 pub use stream_info::{InfoBad, StreamInfo};
-
-#[cfg(test)]
-mod tests;

@@ -11,8 +11,6 @@ mod sharing;
 mod states;
 mod symbol;
 mod table;
-#[cfg(test)]
-mod tests;
 mod window;
 
 pub use decoder::Decoder;

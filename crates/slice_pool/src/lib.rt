@@ -6,8 +6,6 @@ mod pool;
 mod shares;
 mod sharing;
 mod task;
-#[cfg(test)]
-mod tests;
 
 pub use gate::{Gate, OpenGate};
 pub use pool::run_tiles;

@@ -1,7 +1,7 @@
 // Numbers are coded and read by data, in the program that runs the cases; bits one by one are tested here.
 
-use super::*;
 use cook_bits::Bytes;
+use range_coder::{Decoder, Encoder, Table};
 use std::alloc::Global;
 use std::test::*;
 

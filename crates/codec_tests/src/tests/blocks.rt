@@ -1,4 +1,4 @@
-use crate::Block;
+use flac_frame::Block;
 use std::test::Fail;
 
 #[test]

@@ -1,6 +1,6 @@
 // What no line of data reaches yet: fields of bits, bytes that are replaced and given back, a checksum in parts.
 
-use super::*;
+use cook_bits::{BitReader, BitWriter, Bytes, Crc32Ebml, full_name};
 use std::test::Fail;
 
 #[test]

@@ -1,6 +1,6 @@
 ghost use Rattle.std.specs.Prelude.{◌≡◌, ◌<◌, ◌+◌, length, replicate};
 
-use super::*;
+use slice_pool::{Gate, OpenGate, TileTask, run_tiles};
 use std::sync::atomic::{AtomicU64, Ordering};
 
 const MOST_TURNS: u32 = 100_000_000;

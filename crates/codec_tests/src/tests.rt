@@ -1,0 +1,4 @@
+mod bits;
+mod blocks;
+mod coded;
+mod shares;
