@@ -1,18 +1,20 @@
 -- Fields as a writer adds them, one behind another.
-use Rattle.std.proofs.Common.{◌≡◌, ℕ, zero, suc, ◌-◌, ◌+◌, ◌*◌, ◌/◌, ◌%◌, ◌^◌, ◌≤◌, ◌<◌, Bool, false, ℤ, pos, List, [], ◌∷◌, ◌++◌, length, take, drop, replicate, get_or, refl, sym, ap, ◌∙◌, append_assoc, add-one, arith}
+use Rattle.std.proofs.Common.{◌≡◌, ℕ, zero, suc, ◌-◌, ◌+◌, ◌*◌, ◌/◌, ◌%◌, ◌^◌, ◌≤◌, ◌<◌, Bool, false, ℤ, pos, List, [], ◌∷◌, ◌++◌, length, take, drop, replicate, get_or, refl, sym, ap, subst, ◌∙◌, append_assoc, add-one, zero-add, suc-add, ◌==◌, arith}
 use Rattle.std.proofs.Math.Nat.{pow-suc}
-use Rattle.std.proofs.lemmas.Nat.{pow_pos}
+use Rattle.std.proofs.Math.Pow.{pow_mono}
+use Rattle.std.proofs.lemmas.Nat.{pow_pos, mod_below}
 use Rattle.std.proofs.lemmas.Grind.{flat_map-append}
 use Rattle.std.proofs.lemmas.List.{append-nil, take_all, take_more, drop_more, drop_all, replicate-append-replicate}
 use Rattle.std.proofs.Math.ListN.{set}
 use mir.Val.{SFits, to_z, of_z}
 use mir.Syntax.{w32}
-use Rattle.std.proofs.lemmas.Nat.Bits.{bit_at-zero, bit_at-pow_other}
+use Rattle.std.proofs.lemmas.Nat.Bits.{bit_at-zero, bit_at-pow_other, bit_at_cat_low, bit_at_cat_high}
 use Rattle.std.specs.Int.{bit_at}
 use Rattle.std.specs.List.{flat_map}
 use Rattle.cook_bits.specs.Bits.{low_bits}
-use Rattle.flac_frame.specs.Spelling.{unary_bits}
+use Rattle.flac_frame.specs.Spelling.{unary_bits, value_bits_of}
 use Rattle.flac_predict.specs.Samples.{AreInside}
+use Rattle.flac_predict.specs.Rice.{zigzag}
 use Rattle.flac_frame.specs.Writing.{pairwise, later_bits, each_bits, best_subframe}
 use Rattle.flac_frame.proofs.StereoBack.{widened}
 use Rattle.flac_frame.proofs.EachLaws.{stored_next}
@@ -53,6 +55,49 @@ low_one zero = refl
 low_one (suc count) =
     let b : bit_at 1 (suc count) ≡ 0 = one_at count in
     rw b (ap (λ (bits : List Bool). false ∷ bits) (low_one count))
+
+same_low : (count m n : ℕ) → ((i : ℕ) → i < count → bit_at m i ≡ bit_at n i) → low_bits count m ≡ low_bits count n
+unfolding low_bits
+same_low zero m n same = refl
+same_low (suc count) m n same =
+    ap (λ (b : ℕ). (b == 1) ∷ low_bits count m) (same count (omega arith)) ∙ ap (λ (bits : List Bool). (bit_at n count == 1) ∷ bits) (same_low count m n (λ i lt. same i (omega arith)))
+
+low_cat : (high low a b : ℕ) → b < 2 ^ low → low_bits (high + low) (a * 2 ^ low + b) ≡ low_bits high a ++ low_bits low b
+unfolding low_bits
+low_cat zero low a b lt = rw zero-add (same_low low (a * 2 ^ low + b) b (λ i i_lt. bit_at_cat_low a low b i i_lt))
+low_cat (suc high) low a b lt =
+    let bit : bit_at (a * 2 ^ low + b) (high + low) ≡ bit_at a high = bit_at_cat_high a low b (high + low) lt (omega arith) ∙ ap (bit_at a) (omega arith) in
+    rw suc-add (ap (λ (n : ℕ). (n == 1) ∷ low_bits (high + low) (a * 2 ^ low + b)) bit ∙ ap (λ (bits : List Bool). (bit_at a high == 1) ∷ bits) (low_cat high low a b lt))
+
+-- a number in unary and a field behind it are one field
+unary_joined : (low z : ℕ) → low_bits (z / 2 ^ low + 1 + low) (2 ^ low + z % 2 ^ low) ≡ unary_bits (z / 2 ^ low) ++ low_bits low (z % 2 ^ low)
+unary_joined low z =
+    let q = z / 2 ^ low in
+    let one : 2 ^ low + z % 2 ^ low ≡ 1 * 2 ^ low + z % 2 ^ low = omega arith in
+    ap (low_bits (q + 1 + low)) one ∙ low_cat (q + 1) low 1 (z % 2 ^ low) (mod_below z (2 ^ low) (pow_pos low))
+    ∙ ap (λ (bits : List Bool). bits ++ low_bits low (z % 2 ^ low)) (ap (λ k. low_bits k 1) (add-one q) ∙ low_one q)
+
+joined_fits : (low q rest : ℕ) → rest < 2 ^ low → 2 ^ low + rest < 2 ^ (q + 1 + low)
+joined_fits low q rest lt =
+    let more : 2 ^ suc low ≤ 2 ^ (q + 1 + low) = pow_mono {i = suc low} {j = q + 1 + low} (omega arith) in
+    let twice : 2 ^ suc low ≡ 2 ^ low * 2 = pow-suc 2 low in
+    omega arith
+
+-- the power as 32 bits hold it
+power_is : (low : ℕ) → low ≤ 30 → 2 ^ low ≡ 1 * 2 ^ low % 4294967296
+power_is low le =
+    let most : 2 ^ low ≤ 2 ^ 30 = pow_mono {i = low} {j = 30} le in
+    omega arith
+
+pub value_fits : (low z : ℕ) → low ≤ 30 → 1 * 2 ^ low % 4294967296 + z % (1 * 2 ^ low % 4294967296) < 2 ^ (z / 2 ^ low + 1 + low)
+value_fits low z le =
+    subst (λ (m : ℕ). m + z % m < 2 ^ (z / 2 ^ low + 1 + low)) (power_is low le) (joined_fits low (z / 2 ^ low) (z % 2 ^ low) (mod_below z (2 ^ low) (pow_pos low)))
+
+pub value_joined : (low z : ℕ) (x : ℤ) → low ≤ 30 → z ≡ zigzag x → low_bits (z / 2 ^ low + 1 + low) (1 * 2 ^ low % 4294967296 + z % (1 * 2 ^ low % 4294967296)) ≡ value_bits_of low x
+unfolding value_bits_of
+value_joined low z x le is =
+    subst (λ (m : ℕ). low_bits (z / 2 ^ low + 1 + low) (m + z % m) ≡ unary_bits (z / 2 ^ low) ++ low_bits low (z % 2 ^ low)) (power_is low le) (unary_joined low z)
+    ∙ ap (λ (n : ℕ). unary_bits (n / 2 ^ low) ++ low_bits low (n % 2 ^ low)) is
 
 zero_more : (b : ℕ) → b ≡ 0 + b
 zero_more b = omega arith

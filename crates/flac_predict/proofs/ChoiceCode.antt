@@ -15,7 +15,7 @@ use Rattle.flac_predict.specs.Bank.{bank_set, set_of}
 use Rattle.flac_predict.specs.Rice.{best_parameter, residual_bits, AreCodable}
 use Rattle.flac_predict.specs.Least.{least_of, kept}
 use Rattle.flac_predict.specs.Choice.{is_same, all_are, constant_offer, fixed_offer, fixed_offers, linear_offer, linear_offers, candidates, candidate_bits, best_candidate}
-use Rattle.flac_predict.specs.Weighing.{IsWeighed, Holds, lighter_of}
+use Rattle.flac_predict.specs.Weighing.{IsWeighed, IsNoMore, Holds, lighter_of}
 use Rattle.flac_predict.proofs.LeastLaws.{taken, least_of_push}
 
 -- one more offer
@@ -44,6 +44,19 @@ holds_more depth samples held next best offers more h j e f = rw (e, f) (holds_n
 
 pub holds_same : (depth : ℕ) (samples : List ℤ) (held : Option Weighed) (offers more : List Choice) → Holds depth samples held offers → more ≡ offers → Holds depth samples held more
 holds_same depth samples held offers more h e = subst (Holds depth samples held) (sym e) h
+
+-- an offer that what is held has no more bits than changes nothing
+pub holds_kept : (depth : ℕ) (samples : List ℤ) (held : Option Weighed) (c : Choice) (offers more : List Choice) → Holds depth samples held offers → IsNoMore held (candidate_bits depth samples c) → more ≡ offers ++ c ∷ [] → Holds depth samples held more
+holds_kept depth samples None c offers more h n e = absurd n
+holds_kept depth samples (Some w) c offers more h n e =
+    let next : Weighed = record { choice = c; bits = candidate_bits depth samples c } in
+    let f : ltb next.bits w.bits ≡ false = le-ltb next.bits w.bits n in
+    let kept : lighter_of (Some w) next ≡ w = ap (λ (b : Bool). cond b next w) f in
+    holds_more depth samples (Some w) next w offers more h refl (sym kept) e
+
+pub no_more_on : (held : Option Weighed) (a b : ℕ) → a ≤ b → IsNoMore held a → IsNoMore held b
+no_more_on None a b le n = n
+no_more_on (Some w) a b le n = omega (arith, n)
 
 -- the offers, one order and one set more
 pub no_fixed : (samples : List ℤ) (order : ℕ) (before : List Choice) → length samples ≤ order → before ++ fixed_offers samples (order + 1) ≡ before ++ fixed_offers samples order

@@ -1,9 +1,10 @@
 -- The bits of residuals as the parameter grows: they turn once.
-use Rattle.std.proofs.Common.{◌≡◌, ℕ, zero, suc, ◌+◌, ◌-◌, ◌*◌, ◌/◌, ◌^◌, ◌<◌, ◌≤◌, leb, Bool, true, false, if◌then◌else◌, ℤ, List, [], ◌∷◌, length, get_or, ap, subst, ◌∙◌, arith, inl, inr}
+use Rattle.std.proofs.Common.{◌≡◌, ℕ, zero, suc, ◌+◌, ◌-◌, ◌*◌, ◌/◌, ◌%◌, ◌^◌, ◌<◌, ◌≤◌, leb, Bool, true, false, if◌then◌else◌, ℤ, List, [], ◌∷◌, length, get_or, ap, subst, ◌∙◌, arith, inl, inr}
 use Rattle.std.specs.List.{sum_by, range_with_len}
+use Rattle.std.proofs.Math.Nat.{div-le_of_le-mul}
 use Rattle.std.proofs.lemmas.List.Sums.{sum_by-cons}
 use Rattle.std.proofs.lemmas.List.FromFn.{get_or-range_with_len, length-range_with_len}
-use Rattle.std.proofs.lemmas.Nat.{shr-shr}
+use Rattle.std.proofs.lemmas.Nat.{shr-shr, pow_pos, mod_below}
 use Rattle.std.proofs.lemmas.Bool.{cases_Bool, leb-true, leb-false}
 use Rattle.flac_predict.specs.Least.{IsFirstLeast}
 use Rattle.flac_predict.specs.Rice.{zigzag, quotient, value_bits, parameter_bits, residual_bits, parameters, best_parameter}
@@ -151,3 +152,43 @@ is_less zero residuals some h = absurd (omega arith)
 is_less (suc k) residuals some h =
     let back : k ≡ suc k - 1 = omega arith in
     subst (λ (n : ℕ). residual_bits (suc k) residuals < residual_bits n residuals) back (more_before k residuals (omega arith))
+
+whole_one : (k : ℕ) (x : ℤ) → quotient 0 x + 1 ≤ 2 ^ k * (quotient k x + 1)
+whole_one k x =
+    let z = zigzag x in
+    let pos : 0 < 2 ^ k = pow_pos k in
+    let e : 2 ^ k * (z / 2 ^ k) + z % 2 ^ k ≡ z = omega arith in
+    let lt : z % 2 ^ k < 2 ^ k = mod_below z (2 ^ k) pos in
+    let first : z / 2 ^ 0 ≡ z = omega arith in
+    omega (arith, e, lt, first)
+
+whole_more : (d z q s0 s n : ℕ) → z + 1 ≤ d * (q + 1) → s0 + n ≤ d * (s + n) → z + s0 + suc n ≤ d * (q + s + suc n)
+whole_more d z q s0 s n one more = omega arith
+
+whole : (k : ℕ) (residuals : List ℤ) → quotients 0 residuals + length residuals ≤ 2 ^ k * (quotients k residuals + length residuals)
+whole k [] = omega arith
+whole k (x ∷ more) =
+    let n = length more in
+    let a = sum_by-cons (quotient 0) x more in
+    let b : 2 ^ k * (quotients k (x ∷ more) + suc n) ≡ 2 ^ k * (quotient k x + quotients k more + suc n) = ap (λ (m : ℕ). 2 ^ k * (m + suc n)) (sum_by-cons (quotient k) x more) in
+    let all = whole_more (2 ^ k) (quotient 0 x) (quotient k x) (quotients 0 more) (quotients k more) n (whole_one k x) (whole k more) in
+    omega (arith, a, b, all)
+
+-- what the sum of residuals says of the bits under each parameter
+pub sum_least : (k : ℕ) (residuals : List ℤ) → 10 + length residuals * k + (quotients 0 residuals + length residuals) / 2 ^ k ≤ residual_bits k residuals
+sum_least k residuals =
+    let n = length residuals in
+    let q : (quotients 0 residuals + n) / 2 ^ k ≤ quotients k residuals + n = div-le_of_le-mul (2 ^ k) (whole k residuals) in
+    let e = bits_are k residuals in
+    let least : 4 ≤ parameter_bits k = field_least k in
+    omega (arith, e, least, q)
+
+-- so what is at most that for each parameter is at most what the best takes
+pub least_takes : (residuals : List ℤ) (sum least : ℕ) → sum ≡ quotients 0 residuals → ((k : ℕ) → k ≤ 30 → least ≤ 10 + length residuals * k + (sum + length residuals) / 2 ^ k)
+    → least ≤ residual_bits (best_parameter residuals) residuals
+least_takes residuals sum least is low =
+    let k = best_parameter residuals in
+    let a : least ≤ 10 + length residuals * k + (quotients 0 residuals + length residuals) / 2 ^ k =
+    subst (λ (m : ℕ). least ≤ 10 + length residuals * k + (m + length residuals) / 2 ^ k) is (low k (parameter_within residuals)) in
+    let b = sum_least k residuals in
+    omega (arith, a, b)

@@ -1,16 +1,17 @@
 // The writer's choice for one channel.
 
-ghost use Rattle.std.specs.Prelude.{◌≡◌, ◌+◌, ◌*◌, ◌≤◌, ◌<◌, ◌++◌, length};
+ghost use Rattle.std.specs.Prelude.{◌≡◌, ◌+◌, ◌*◌, ◌≤◌, ◌<◌, ◌++◌, length, IsTrue, MatchOption};
 ghost use Rattle.flac_predict.specs.Samples.{AreInside, sample_at};
 ghost use Rattle.flac_predict.specs.Fixed.{fixed_residuals};
 ghost use Rattle.flac_predict.specs.Linear.{linear_residuals};
 ghost use Rattle.flac_predict.specs.Bank.{bank_set};
-ghost use Rattle.flac_predict.specs.Rice.{best_parameter};
+ghost use Rattle.flac_predict.specs.Rice.{best_parameter, residual_bits, AreCodable};
 ghost use Rattle.flac_predict.specs.Choice.{best_candidate, candidate_bits, IsCandidate, all_are, constant_offer, fixed_offers, linear_offers};
-ghost use Rattle.flac_predict.specs.Weighing.{Holds, IsWeighed, lighter_of};
+ghost use Rattle.flac_predict.specs.Weighing.{Holds, IsNoMore, IsOffer, lighter_of};
 
 use crate::linear::residual_bank;
-use crate::{LinearSet, bank, residual_fixed, rice_bits};
+use crate::rice::{guess, least_bits, rice_near, shifted_sum};
+use crate::{LinearSet, bank, residual_fixed};
 
 /// How a channel's samples are put into a subframe (RFC 9639, section 9.2).
 #[derive(Clone, Copy, Debug, Drop, PartialEq, Eq)]
@@ -149,27 +150,62 @@ fn with_order(
     if samples.len() <= order as usize {
         return held;
     }
-    let next = fixed(order, samples, bits, work);
-    Some(lighter(held, next))
+    match fixed(held, order, samples, bits, work) {
+        None => held,
+        Some(next) => Some(lighter(held, next)),
+    }
 }
 
-fn fixed(order: u32, samples: &[i32], bits: u32, work: &mut [i32]) -> Weighed
+// The offer of a fixed order, or none where what is held has no more bits.
+fn fixed(
+    held: Option<Weighed>,
+    order: u32,
+    samples: &[i32],
+    bits: u32,
+    work: &mut [i32],
+) -> Option<Weighed>
     requires order { order ≤ 4 }
     requires enough { order < length samples.now }
     requires count { length samples.now ≤ 4096 }
     requires high { bits ≤ 25 }
     requires samples { AreInside 25 samples.now }
     requires room { length work.old ≡ length samples.now }
-    ensures choice { result.choice ≡ Choice.Fixed order (best_parameter (fixed_residuals order samples.now)) }
-    ensures bits { IsWeighed bits samples.now result }
+    ensures { IsOffer bits samples.now held (Choice.Fixed order (best_parameter (fixed_residuals order samples.now))) result }
 {
     let residuals = &mut work[..samples.len() - order as usize];
     residual_fixed(order, samples, residuals);
-    let (parameter, rice) = rice_bits(residuals);
-    Weighed {
+    let (parameter, bits) = offered(held, residuals, 8 + order as u64 * bits as u64)?;
+    Some(Weighed {
         choice: Choice::Fixed { order, parameter },
-        bits: 8 + order as u64 * bits as u64 + rice,
+        bits,
+    })
+}
+
+// Whether something is held that has at most so many bits.
+fn is_no_more(held: Option<Weighed>, bits: u64) -> bool
+    ensures { IsTrue result → IsNoMore held bits }
+{
+    match held {
+        None => false,
+        Some(held) => held.bits <= bits,
     }
+}
+
+// The best parameter of residuals, and their bits behind a head of so many; none where what is held surely has no more.
+fn offered(held: Option<Weighed>, residuals: &[i32], head: u64) -> Option<(u32, u64)>
+    requires count { length residuals.now ≤ 4096 }
+    requires codable { AreCodable residuals.now }
+    requires head { head ≤ 10000 }
+    ensures { MatchOption result (IsNoMore held (head + residual_bits (best_parameter residuals.now) residuals.now))
+        (λ found. (found.0 ≡ best_parameter residuals.now) × (found.1 ≡ head + residual_bits found.0 residuals.now)) }
+{
+    let sum = shifted_sum(residuals, 0);
+    let count = residuals.len() as u64;
+    if is_no_more(held, head + least_bits(sum, count)) {
+        return None;
+    }
+    let (parameter, bits) = rice_near(residuals, guess(sum, count));
+    Some((parameter, head + bits))
 }
 
 // The offers of the bank's sets behind what is held.
@@ -215,11 +251,21 @@ fn with_set(
     if samples.len() <= set.order as usize {
         return held;
     }
-    let next = linear(before + 1, &set, samples, bits, work);
-    Some(lighter(held, next))
+    match linear(held, before + 1, &set, samples, bits, work) {
+        None => held,
+        Some(next) => Some(lighter(held, next)),
+    }
 }
 
-fn linear(number: u32, set: &LinearSet, samples: &[i32], bits: u32, work: &mut [i32]) -> Weighed
+// The offer of a set, or none where what is held has no more bits.
+fn linear(
+    held: Option<Weighed>,
+    number: u32,
+    set: &LinearSet,
+    samples: &[i32],
+    bits: u32,
+    work: &mut [i32],
+) -> Option<Weighed>
     requires low { 1 ≤ number }
     requires number { number ≤ 8 }
     requires set { set.now ≡ bank_set number }
@@ -228,17 +274,17 @@ fn linear(number: u32, set: &LinearSet, samples: &[i32], bits: u32, work: &mut [
     requires high { bits ≤ 25 }
     requires samples { AreInside 25 samples.now }
     requires room { length work.old ≡ length samples.now }
-    ensures choice { result.choice ≡ Choice.Linear number (best_parameter (linear_residuals set.now samples.now)) }
-    ensures bits { IsWeighed bits samples.now result }
+    ensures { IsOffer bits samples.now held (Choice.Linear number (best_parameter (linear_residuals set.now samples.now))) result }
 {
     let residuals = &mut work[..samples.len() - set.order as usize];
     residual_bank(number, samples, residuals);
-    let (parameter, rice) = rice_bits(residuals);
-    Weighed {
+    let head = 17 + set.order as u64 * bits as u64 + set.order as u64 * set.precision as u64;
+    let (parameter, bits) = offered(held, residuals, head)?;
+    Some(Weighed {
         choice: Choice::Linear {
             set: number,
             parameter,
         },
-        bits: 17 + set.order as u64 * bits as u64 + set.order as u64 * set.precision as u64 + rice,
-    }
+        bits,
+    })
 }

@@ -1,6 +1,6 @@
 // How many bits residuals take (RFC 9639, section 9.2.7).
 
-ghost use Rattle.std.specs.Prelude.{◌≡◌, suc, ◌+◌, ◌*◌, ◌/◌, ◌^◌, ◌<◌, ◌≤◌, length};
+ghost use Rattle.std.specs.Prelude.{◌≡◌, ℕ, suc, ◌+◌, ◌*◌, ◌/◌, ◌^◌, ◌<◌, ◌≤◌, length};
 ghost use Rattle.std.specs.List.{sum_by};
 ghost use Rattle.flac_predict.specs.Samples.{AreInside};
 ghost use Rattle.flac_predict.specs.Rice.{zigzag, quotient, parameter_bits, residual_bits, best_parameter, AreCodable};
@@ -15,7 +15,21 @@ pub fn rice_bits(residuals: &[i32]) -> (u32, u64)
     ensures within { result.0 ≤ 30 }
     ensures most { result.1 < 2 ^ 46 }
 {
-    let (parameter, bits) = climbed(residuals, guess(residuals));
+    let sum = shifted_sum(residuals, 0);
+    rice_near(residuals, guess(sum, residuals.len() as u64))
+}
+
+// The same from a parameter on that is near.
+pub(crate) fn rice_near(residuals: &[i32], parameter: u32) -> (u32, u64)
+    requires count { length residuals.now ≤ 4096 }
+    requires codable { AreCodable residuals.now }
+    requires within { parameter ≤ 30 }
+    ensures parameter { result.0 ≡ best_parameter residuals.now }
+    ensures bits { result.1 ≡ residual_bits result.0 residuals.now }
+    ensures within { result.0 ≤ 30 }
+    ensures most { result.1 < 2 ^ 46 }
+{
+    let (parameter, bits) = climbed(residuals, parameter);
     descended(residuals, parameter, bits)
 }
 
@@ -74,15 +88,28 @@ fn descended(residuals: &[i32], parameter: u32, bits: u64) -> (u32, u64)
     (0, bits)
 }
 
-// A parameter that is near the best one.
-fn guess(residuals: &[i32]) -> u32
-    requires count { length residuals.now ≤ 4096 }
-    requires codable { AreCodable residuals.now }
+// A parameter that is near the best one for so many residuals of this sum.
+pub(crate) fn guess(sum: u64, count: u64) -> u32
+    requires sum { sum ≤ 2 ^ 44 }
+    requires count { count ≤ 4096 }
     ensures { result ≤ 30 }
 {
-    let sum = shifted_sum(residuals, 0);
-    let mean = sum / (residuals.len() as u64 + 1);
+    let mean = sum / (count + 1);
     (mean + 1).ilog2().min(30)
+}
+
+// At most what so many residuals of this sum take under any parameter.
+pub(crate) fn least_bits(sum: u64, count: u64) -> u64
+    requires sum { sum ≤ 2 ^ 44 }
+    requires count { count ≤ 4096 }
+    ensures least { (k : ℕ) → k ≤ 30 → result ≤ 10 + count * k + (sum + count) / 2 ^ k }
+    ensures small { result ≤ 2 ^ 45 }
+{
+    let mut least = 10 + sum + count;
+    for at in 0..31u32 {
+        least = least.min(10 + count * at as u64 + ((sum + count) >> at));
+    }
+    least
 }
 
 // The bits under a parameter.
@@ -106,7 +133,7 @@ fn field_bits(parameter: u32) -> u64
 }
 
 // The sum of the quotients. What each holds of 2^16 and what is left of it are added apart, so that sums of 32 bits do.
-fn shifted_sum(residuals: &[i32], parameter: u32) -> u64
+pub(crate) fn shifted_sum(residuals: &[i32], parameter: u32) -> u64
     requires count { length residuals.now ≤ 4096 }
     requires codable { AreCodable residuals.now }
     requires within { parameter ≤ 30 }

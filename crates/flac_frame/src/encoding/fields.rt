@@ -64,8 +64,13 @@ fn put_value(writer: &mut BitWriter, value: i32, parameter: u32) -> Result<(), N
     ensures { OnOk result (writer.new ≡ writer.old ++ value_bits_of parameter value) }
 {
     let number = zigzag(value);
-    put_unary(writer, number >> parameter)?;
-    writer.put(number % (1 << parameter), parameter)
+    let quotient = number >> parameter;
+    let rest = number % (1 << parameter);
+    if quotient < 32 - parameter {
+        return writer.put((1 << parameter) + rest, quotient + 1 + parameter);
+    }
+    put_unary(writer, quotient)?;
+    writer.put(rest, parameter)
 }
 
 /// Residuals under a parameter.
