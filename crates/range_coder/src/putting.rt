@@ -26,11 +26,11 @@ pub(crate) fn put_line(
 ) -> Result<(), NoMemory>
     requires live { AreLive table.now states.old }
     requires placed { ArePlaced (length states.old) signed symbols.now }
-    requires window { IsWindow bytes.old.items window.old.low window.old.range }
+    requires window { IsWindow bytes.old.items window.old.top window.old.range }
     ensures ok { OnOk result (PutsIn table.now window.old bytes.old states.old window.new bytes.new states.new (placed_symbols signed symbols.now)) }
     ensures err { OnErr result (FrontIn table.now window.old bytes.old states.old window.new bytes.new states.new (placed_symbols signed symbols.now)) }
     ensures live { AreLive table.now states.new }
-    ensures window { IsWindow bytes.new.items window.new.low window.new.range }
+    ensures window { IsWindow bytes.new.items window.new.top window.new.range }
 {
     for symbol in symbols {
         put_placed(window, bytes, table, states, *symbol, signed)?;
@@ -50,11 +50,11 @@ fn put_placed(
 ) -> Result<(), NoMemory>
     requires live { AreLive table.now states.old }
     requires placed { IsPlaced (length states.old) signed symbol }
-    requires window { IsWindow bytes.old.items window.old.low window.old.range }
+    requires window { IsWindow bytes.old.items window.old.top window.old.range }
     ensures ok { OnOk result (PutsIn table.now window.old bytes.old states.old window.new bytes.new states.new (placed_symbol signed symbol)) }
     ensures err { OnErr result (FrontIn table.now window.old bytes.old states.old window.new bytes.new states.new (placed_symbol signed symbol)) }
     ensures live { AreLive table.now states.new }
-    ensures window { IsWindow bytes.new.items window.new.low window.new.range }
+    ensures window { IsWindow bytes.new.items window.new.top window.new.range }
 {
     let first = symbol.first as usize;
     let set = &mut states[first..first + SET];
@@ -73,12 +73,12 @@ pub(crate) fn put_value(
     requires set { length set.old ≡ 32 }
     requires live { AreLive table.now set.old }
     requires codable { IsCodable value signed }
-    requires window { IsWindow bytes.old.items window.old.low window.old.range }
+    requires window { IsWindow bytes.old.items window.old.top window.old.range }
     ensures ok { OnOk result (PutsIn table.now window.old bytes.old set.old window.new bytes.new set.new (symbol_choices value signed)) }
     ensures err { OnErr result (FrontIn table.now window.old bytes.old set.old window.new bytes.new set.new (symbol_choices value signed)) }
     ensures live { AreLive table.now set.new }
     ensures closed { IsClosed table.now }
-    ensures window { IsWindow bytes.new.items window.new.low window.new.range }
+    ensures window { IsWindow bytes.new.items window.new.top window.new.range }
 {
     let magnitude = value.unsigned_abs();
     if magnitude == 0 {
@@ -111,11 +111,11 @@ fn put_usual(
     requires set { length set.old ≡ 32 }
     requires live { AreLive table.now set.old }
     requires codable { IsCodable value signed }
-    requires window { IsWindow bytes.old.items window.old.low window.old.range }
+    requires window { IsWindow bytes.old.items window.old.top window.old.range }
     ensures ok { OnOk result (PutsIn table.now window.old bytes.old set.old window.new bytes.new set.new (symbol_choices value signed)) }
     ensures err { OnErr result (FrontIn table.now window.old bytes.old set.old window.new bytes.new set.new (symbol_choices value signed)) }
     ensures live { AreLive table.now set.new }
-    ensures window { IsWindow bytes.new.items window.new.low window.new.range }
+    ensures window { IsWindow bytes.new.items window.new.top window.new.range }
 {
     let magnitude = value.unsigned_abs();
     if magnitude == 0 {
@@ -138,11 +138,11 @@ fn put_nonzero(
     requires set { length set.old ≡ 32 }
     requires live { AreLive table.now set.old }
     requires some { 0 < magnitude }
-    requires window { IsWindow bytes.old.items window.old.low window.old.range }
+    requires window { IsWindow bytes.old.items window.old.top window.old.range }
     ensures ok { OnOk result (PutsIn table.now window.old bytes.old set.old window.new bytes.new set.new (magnitude_choices magnitude negative signed)) }
     ensures err { OnErr result (FrontIn table.now window.old bytes.old set.old window.new bytes.new set.new (magnitude_choices magnitude negative signed)) }
     ensures live { AreLive table.now set.new }
-    ensures window { IsWindow bytes.new.items window.new.low window.new.range }
+    ensures window { IsWindow bytes.new.items window.new.top window.new.range }
 {
     window.put_slot(bytes, table, set, 0, false)?;
     put_behind(window, bytes, table, set, magnitude, negative, signed)
@@ -162,11 +162,11 @@ fn put_behind(
     requires set { length set.old ≡ 32 }
     requires live { AreLive table.now set.old }
     requires some { 0 < magnitude }
-    requires window { IsWindow bytes.old.items window.old.low window.old.range }
+    requires window { IsWindow bytes.old.items window.old.top window.old.range }
     ensures ok { OnOk result (PutsIn table.now window.old bytes.old set.old window.new bytes.new set.new (behind_choices magnitude negative signed)) }
     ensures err { OnErr result (FrontIn table.now window.old bytes.old set.old window.new bytes.new set.new (behind_choices magnitude negative signed)) }
     ensures live { AreLive table.now set.new }
-    ensures window { IsWindow bytes.new.items window.new.low window.new.range }
+    ensures window { IsWindow bytes.new.items window.new.top window.new.range }
 {
     if magnitude < 2 {
         return put_tail(window, bytes, table, set, 0, magnitude, negative, signed);
@@ -228,11 +228,11 @@ fn put_one(
 ) -> Result<(), NoMemory>
     requires set { length set.old ≡ 32 }
     requires live { AreLive table.now set.old }
-    requires window { IsWindow bytes.old.items window.old.low window.old.range }
+    requires window { IsWindow bytes.old.items window.old.top window.old.range }
     ensures ok { OnOk result (PutsIn table.now window.old bytes.old set.old window.new bytes.new set.new (choice (exponent_slot count) true ∷ [])) }
     ensures err { OnErr result (FrontIn table.now window.old bytes.old set.old window.new bytes.new set.new (choice (exponent_slot count) true ∷ [])) }
     ensures live { AreLive table.now set.new }
-    ensures window { IsWindow bytes.new.items window.new.low window.new.range }
+    ensures window { IsWindow bytes.new.items window.new.top window.new.range }
 {
     window.put_slot(bytes, table, set, 1 + count.min(9), true)
 }
@@ -252,11 +252,11 @@ fn put_tail(
     requires set { length set.old ≡ 32 }
     requires live { AreLive table.now set.old }
     requires exponent { exponent < 32 }
-    requires window { IsWindow bytes.old.items window.old.low window.old.range }
+    requires window { IsWindow bytes.old.items window.old.top window.old.range }
     ensures ok { OnOk result (PutsIn table.now window.old bytes.old set.old window.new bytes.new set.new (tail_choices exponent magnitude negative signed)) }
     ensures err { OnErr result (FrontIn table.now window.old bytes.old set.old window.new bytes.new set.new (tail_choices exponent magnitude negative signed)) }
     ensures live { AreLive table.now set.new }
-    ensures window { IsWindow bytes.new.items window.new.low window.new.range }
+    ensures window { IsWindow bytes.new.items window.new.top window.new.range }
 {
     window.put_slot(bytes, table, set, 1 + exponent.min(9), false)?;
     put_low_bits(window, bytes, table, set, exponent, magnitude)?;
@@ -280,12 +280,12 @@ fn put_parts(
     requires live { AreLive table.now set.old }
     requires exponent { exponent ≡ exponent_of magnitude }
     requires high { exponent < 32 }
-    requires window { IsWindow bytes.old.items window.old.low window.old.range }
+    requires window { IsWindow bytes.old.items window.old.top window.old.range }
     ensures ok { OnOk result (PutsIn table.now window.old bytes.old set.old window.new bytes.new set.new (magnitude_choices magnitude negative signed)) }
     ensures err { OnErr result (FrontIn table.now window.old bytes.old set.old window.new bytes.new set.new (magnitude_choices magnitude negative signed)) }
     ensures live { AreLive table.now set.new }
     ensures closed { IsClosed table.now }
-    ensures window { IsWindow bytes.new.items window.new.low window.new.range }
+    ensures window { IsWindow bytes.new.items window.new.top window.new.range }
 {
     window.put_slot(bytes, table, set, 0, false)?;
     put_exponent(window, bytes, table, set, exponent)?;
@@ -316,11 +316,11 @@ fn put_exponent(
     requires set { length set.old ≡ 32 }
     requires live { AreLive table.now set.old }
     requires exponent { exponent < 32 }
-    requires window { IsWindow bytes.old.items window.old.low window.old.range }
+    requires window { IsWindow bytes.old.items window.old.top window.old.range }
     ensures ok { OnOk result (PutsIn table.now window.old bytes.old set.old window.new bytes.new set.new (exponent_choices exponent)) }
     ensures err { OnErr result (FrontIn table.now window.old bytes.old set.old window.new bytes.new set.new (exponent_choices exponent)) }
     ensures live { AreLive table.now set.new }
-    ensures window { IsWindow bytes.new.items window.new.low window.new.range }
+    ensures window { IsWindow bytes.new.items window.new.top window.new.range }
 {
     put_ones(window, bytes, table, set, exponent)?;
     window.put_slot(bytes, table, set, 1 + exponent.min(9), false)?;
@@ -339,11 +339,11 @@ fn put_ones(
 ) -> Result<(), NoMemory>
     requires set { length set.old ≡ 32 }
     requires live { AreLive table.now set.old }
-    requires window { IsWindow bytes.old.items window.old.low window.old.range }
+    requires window { IsWindow bytes.old.items window.old.top window.old.range }
     ensures ok { OnOk result (PutsIn table.now window.old bytes.old set.old window.new bytes.new set.new (ones exponent)) }
     ensures err { OnErr result (FrontIn table.now window.old bytes.old set.old window.new bytes.new set.new (ones exponent)) }
     ensures live { AreLive table.now set.new }
-    ensures window { IsWindow bytes.new.items window.new.low window.new.range }
+    ensures window { IsWindow bytes.new.items window.new.top window.new.range }
 {
     for k in 0..exponent {
         window.put_slot(bytes, table, set, 1 + k.min(9), true)?;
@@ -365,11 +365,11 @@ fn put_low_bits(
     requires set { length set.old ≡ 32 }
     requires live { AreLive table.now set.old }
     requires exponent { exponent < 32 }
-    requires window { IsWindow bytes.old.items window.old.low window.old.range }
+    requires window { IsWindow bytes.old.items window.old.top window.old.range }
     ensures ok { OnOk result (PutsIn table.now window.old bytes.old set.old window.new bytes.new set.new (low_bits exponent magnitude)) }
     ensures err { OnErr result (FrontIn table.now window.old bytes.old set.old window.new bytes.new set.new (low_bits exponent magnitude)) }
     ensures live { AreLive table.now set.new }
-    ensures window { IsWindow bytes.new.items window.new.low window.new.range }
+    ensures window { IsWindow bytes.new.items window.new.top window.new.range }
 {
     for place in (0..exponent).rev() {
         window.put_slot(
@@ -396,11 +396,11 @@ fn put_sign(
 ) -> Result<(), NoMemory>
     requires set { length set.old ≡ 32 }
     requires live { AreLive table.now set.old }
-    requires window { IsWindow bytes.old.items window.old.low window.old.range }
+    requires window { IsWindow bytes.old.items window.old.top window.old.range }
     ensures ok { OnOk result (PutsIn table.now window.old bytes.old set.old window.new bytes.new set.new (sign_choices signed exponent negative)) }
     ensures err { OnErr result (FrontIn table.now window.old bytes.old set.old window.new bytes.new set.new (sign_choices signed exponent negative)) }
     ensures live { AreLive table.now set.new }
-    ensures window { IsWindow bytes.new.items window.new.low window.new.range }
+    ensures window { IsWindow bytes.new.items window.new.top window.new.range }
 {
     if signed {
         window.put_slot(bytes, table, set, 11 + exponent.min(10), negative)?;
