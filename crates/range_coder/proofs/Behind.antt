@@ -1,11 +1,11 @@
 -- What stands behind the choice that a number isn't 0, put one by one.
-use Rattle.std.proofs.Common.{◌≡◌, ℕ, zero, suc, ◌+◌, ◌-◌, ◌*◌, ◌^◌, ◌<◌, ◌≤◌, List, [], ◌∷◌, ◌++◌, Bool, true, false, Result, OnOk, OnErr, refl, sym, ap, ◌∙◌, subst, arith, append_assoc, inl, inr}
+use Rattle.std.proofs.Common.{◌≡◌, ℕ, zero, suc, ◌+◌, ◌-◌, ◌^◌, ◌<◌, ◌≤◌, List, [], ◌∷◌, ◌++◌, Bool, true, false, Result, OnOk, OnErr, refl, sym, ap, ◌∙◌, subst, arith, append_assoc, inl, inr}
 use Rattle.std.proofs.lemmas.Bool.{cases_lt, le-leb, lt-leb}
 use Rattle.std.proofs.lemmas.Result.{on_ok_weaker, on_err_weaker}
 use Rattle.range_coder.specs.Encoding.{Encoding}
 use Rattle.range_coder.specs.Choices.{Choice}
 use Rattle.range_coder.specs.Coding.{Puts, PutsFront}
-use Rattle.range_coder.specs.Symbol.{choice, exponent_of, exponent_up_to, exponent_slot, exponent_choices, ones, low_bits, sign_choices, number_choices, tail_choices, behind_choices}
+use Rattle.range_coder.specs.Symbol.{choice, exponent_of, exponent_up_to, exponent_slot, ones, low_bits, sign_choices, number_choices, tail_choices, behind_choices}
 use Rattle.range_coder.proofs.Codings.{puts_more, puts_then_front, front_of_more}
 use Rattle.range_coder.proofs.Symbols.{HasPut, some, one_refused, number_joined}
 
