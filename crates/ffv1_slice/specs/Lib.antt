@@ -11,6 +11,7 @@ pub mod Loading
 pub mod Pixels
 pub mod Plane
 pub mod Planes
+pub mod Putting
 pub mod Reached
 pub mod Room
 pub mod Slice

@@ -1,17 +1,16 @@
 // A tile coded as a slice.
 
 ghost use Rattle.std.specs.Prelude.{◌≡◌, ◌+◌, ◌*◌, ◌^◌, ◌≤◌, length, IsTrue, OnOk, IfOk};
-ghost use Rattle.range_coder.specs.Coding.{Puts};
 ghost use Rattle.range_coder.specs.Interval.{coded};
 ghost use Rattle.range_coder.specs.Table.{AreLive};
 ghost use Rattle.ffv1_params.specs.QuantTables.{AreFlat, most_contexts};
 ghost use Rattle.ffv1_slice.specs.Below.{IsHalf};
 ghost use Rattle.ffv1_slice.specs.Blank.{IsBlank};
-ghost use Rattle.ffv1_slice.specs.Colour.{samples_of};
 ghost use Rattle.ffv1_slice.specs.Laws.{IsInside};
-ghost use Rattle.ffv1_slice.specs.Planes.{AreReady, choices_of_planes};
-ghost use Rattle.ffv1_slice.specs.Slice.{slots_of, IsTile, rows_choices, slice_decisions};
-ghost use Rattle.ffv1_slice.specs.Work.{AreSlots, choices_of_line};
+ghost use Rattle.ffv1_slice.specs.Planes.{AreReady};
+ghost use Rattle.ffv1_slice.specs.Putting.{PutsLine, PutsPlanes, PutsRows};
+ghost use Rattle.ffv1_slice.specs.Slice.{slots_of, IsTile, slice_decisions};
+ghost use Rattle.ffv1_slice.specs.Work.{AreSlots};
 
 use crate::SliceHead;
 use crate::depth::{half_of, is_from_green};
@@ -49,7 +48,7 @@ fn encode_plane(
     requires flat { IsTrue flat → AreFlat values.now }
     requires slots { AreSlots values.now first (length states.old) }
     requires lines { AreReady (length symbols.old) (2 * half) lines.now }
-    ensures ok { OnOk result (Puts table.now encoder.old states.old encoder.new states.new (choices_of_line half values.now first lines.now.above2.items lines.now.above.items lines.now.line.items (length symbols.old))) }
+    ensures ok { OnOk result (PutsLine table.now encoder.old states.old encoder.new states.new half values.now first lines.now (length symbols.old)) }
     ensures live { AreLive table.now states.new }
 {
     place_line(
@@ -83,7 +82,7 @@ fn encode_planes(
     requires luma { AreReady (length symbols.old) (2 * half) planes.now.luma }
     requires blue { AreReady (length symbols.old) (2 * half) planes.now.blue }
     requires red { AreReady (length symbols.old) (2 * half) planes.now.red }
-    ensures ok { OnOk result (Puts params.now.table encoder.old states.old encoder.new states.new (choices_of_planes params.now head.now planes.now (length symbols.old))) }
+    ensures ok { OnOk result (PutsPlanes params.now head.now encoder.old states.old encoder.new states.new planes.now (length symbols.old)) }
     ensures live { AreLive params.now.table states.new }
 {
     let table = params.table();
@@ -146,7 +145,7 @@ fn put_rows(
     requires luma { IsBlank (length symbols.old + 3) planes.old.luma }
     requires blue { IsBlank (length symbols.old + 3) planes.old.blue }
     requires red { IsBlank (length symbols.old + 3) planes.old.red }
-    ensures { OnOk result (Puts params.now.table encoder.old states.old encoder.new states.new (rows_choices params.now head.now (length symbols.old) (samples_of params.now.bits (length symbols.old) tile.now) height)) }
+    ensures { OnOk result (PutsRows params.now head.now encoder.old states.old encoder.new states.new tile.now (length symbols.old) height) }
 {
     let half = half_of(params);
     let green_based = is_from_green(params);

@@ -1,4 +1,5 @@
 pub mod Among
+pub mod Behind
 pub mod Carries
 pub mod ChoiceLaws
 pub mod CodedLaws

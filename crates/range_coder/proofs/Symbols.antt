@@ -184,7 +184,7 @@ nonzero_got table r0 s0 r1 s1 r2 s2 e signed value low high within a b =
     let exponent = exponent_is (unsigned_abs value) e low high (omega arith) in
     subst (λ (n : ℕ). Gets table r0 s0 r2 s2 (exponent_choices n ++ rest_choices n value signed)) exponent (gets_more table r0 s0 r1 s1 r2 s2 (exponent_choices e) (rest_choices e value signed) a b)
 
-number_joined : (e magnitude : ℕ) (negative signed : Bool) → some ++ (exponent_choices e ++ (low_bits e magnitude ++ sign_choices signed e negative)) ≡ number_choices e magnitude negative signed
+pub number_joined : (e magnitude : ℕ) (negative signed : Bool) → some ++ (exponent_choices e ++ (low_bits e magnitude ++ sign_choices signed e negative)) ≡ number_choices e magnitude negative signed
 number_joined e magnitude negative signed =
     sym (append_assoc some (exponent_choices e) (low_bits e magnitude ++ sign_choices signed e negative)) ∙ sym (append_assoc (some ++ exponent_choices e) (low_bits e magnitude) (sign_choices signed e negative))
 

@@ -1,9 +1,10 @@
--- The window of an encoder is the lower end of its interval.
+-- The window of an encoder is the lower end of its interval, kept by its upper end.
 use Rattle.std.proofs.Common.{◌≡◌, ℕ, ◌+◌, ◌-◌, ◌*◌, ◌/◌, ◌%◌, ◌<◌, ◌≤◌, List, [], length, slice_index, Bool, true, false, cond, refl, sym, ap, ◌∙◌, arith}
 use Rattle.std.specs.Int.{bytes_high_first}
 use Rattle.range_coder.specs.Interval.{Interval, whole, part_of_one, part, renewed, narrow, first_bytes, bytes_in}
 use Rattle.range_coder.specs.Encoding.{number_in, interval_of, IsWindow}
-use Rattle.range_coder.proofs.Intervals.{renewed_small, renewed_wide}
+use Rattle.range_coder.specs.Table.{IsState}
+use Rattle.range_coder.proofs.Intervals.{two_parts, renewed_small, renewed_wide}
 use Rattle.range_coder.proofs.Numbers.{bytes-first_bytes}
 
 abbrev interval : ℕ → ℕ → ℕ → Interval
@@ -34,6 +35,32 @@ unfolding narrow
 narrow_within bytes low range low' range' state bit before is is_low is_range wide =
     sym (renewed_wide (interval_of bytes low' range') wide) ∙ ap renewed (part_of_window bytes low range state bit low' range' is_low is_range ∙ ap (λ (i : Interval). part i state bit) is)
 
+-- the same by the upper end
+low_of_top : (top range ones top' range' : ℕ) (bit : Bool) → ones ≤ range → range ≤ top → top' ≡ cond bit top (top - ones) → range' ≡ cond bit ones (range - ones) → top' - range' ≡ cond bit (top - range + (range - ones)) (top - range)
+low_of_top top range ones top' range' true within inside is_top is_range = let a : top' ≡ top = is_top in let b : range' ≡ ones = is_range in omega arith
+low_of_top top range ones top' range' false within inside is_top is_range = let a : top' ≡ top - ones = is_top in let b : range' ≡ range - ones = is_range in omega arith
+
+pub low_part : (top range state top' range' : ℕ) (bit : Bool) → IsState state → 256 ≤ range → range ≤ top → top' ≡ cond bit top (top - part_of_one range state) → range' ≡ cond bit (part_of_one range state) (range - part_of_one range state) → top' - range' ≡ cond bit (top - range + (range - part_of_one range state)) (top - range)
+low_part top range state top' range' bit s wide inside is_top is_range =
+    let two = two_parts range state wide s in
+    let less : part_of_one range state < range = two.less in
+    let within : part_of_one range state ≤ range = omega arith in
+    low_of_top top range (part_of_one range state) top' range' bit within inside is_top is_range
+
+from_top : (low range : ℕ) → low + range - range ≡ low
+from_top low range = omega arith
+
+pub top_by_byte : (bytes bytes' : List ℕ) (top range top' range' state : ℕ) (bit : Bool) → IsState state → 256 ≤ range → range ≤ top → top' ≡ cond bit top (top - part_of_one range state) → range' ≡ cond bit (part_of_one range state) (range - part_of_one range state) → range' < 256 → length bytes' ≡ length bytes + 1 → number_in bytes' ≡ number_in bytes * 256 + (top' - range') / 256 → interval_of bytes' ((top' - range') % 256 * 256 + range' * 256 - range' * 256) (range' * 256) ≡ narrow (interval_of bytes (top - range) range) state bit
+top_by_byte bytes bytes' top range top' range' state bit s wide inside is_top is_range small len number =
+    rw (from_top ((top' - range') % 256 * 256) (range' * 256)) (narrow_by_byte bytes bytes' (top - range) range (top' - range') range' state bit (interval_of bytes (top - range) range) refl (low_part top range state top' range' bit s wide inside is_top is_range) is_range small len number)
+
+pub top_within : (bytes : List ℕ) (top range top' range' state : ℕ) (bit : Bool) → IsState state → 256 ≤ range → range ≤ top → top' ≡ cond bit top (top - part_of_one range state) → range' ≡ cond bit (part_of_one range state) (range - part_of_one range state) → 256 ≤ range' → interval_of bytes (top' - range') range' ≡ narrow (interval_of bytes (top - range) range) state bit
+top_within bytes top range top' range' state bit s wide inside is_top is_range large =
+    narrow_within bytes (top - range) range (top' - range') range' state bit (interval_of bytes (top - range) range) refl (low_part top range state top' range' bit s wide inside is_top is_range) is_range large
+
+pub is_sentinel : IsState 129
+is_sentinel = record { low = omega arith; high = omega arith }
+
 -- the bytes after the last digit are those that end the decisions
 pub ends_in : (bytes new : List ℕ) (low range : ℕ) (e : Interval) → interval_of bytes low range ≡ e → length new ≡ length bytes + 1 → number_in new ≡ number_in bytes * 256 + (low + 255) / 256 → ((k : ℕ) → slice_index new k < 256) → new ≡ bytes_in e
 unfolding bytes_in
@@ -48,10 +75,10 @@ ends_with bytes before new answer low low' range e is same at there len number a
     is ∙ ends_in bytes new low' range e there (rw same at len) (rw (same, at) at number) are
 
 -- nothing is written yet
-pub new_window : (bytes : List ℕ) → bytes ≡ [] → IsWindow bytes 0 65280
+pub new_window : (bytes : List ℕ) → bytes ≡ [] → IsWindow bytes 65280 65280
 unfolding first_bytes
-new_window bytes none = rw none (record { least = omega arith; most = omega arith; window = omega arith; within = omega arith })
+new_window bytes none = rw none (record { least = omega arith; most = omega arith; inside = omega arith; window = omega arith; within = omega arith })
 
-pub new_interval : (bytes : List ℕ) → bytes ≡ [] → interval_of bytes 0 65280 ≡ whole
+pub new_interval : (bytes : List ℕ) → bytes ≡ [] → interval_of bytes (65280 - 65280) 65280 ≡ whole
 unfolding whole first_bytes
 new_interval bytes none = rw none refl

@@ -24,9 +24,10 @@ interval_of bytes low range =
 abbrev pub encoding_of : {Z : Type 0} → Vec ℕ Z → ℕ → ℕ → Encoding
 encoding_of bytes low range = record { interval = interval_of bytes.items low range; spare = spare_in bytes }
 
--- a window after any decisions
-pub record IsWindow (bytes : List ℕ) (low range : ℕ) : Type 0 where
+-- a window after any decisions, by the upper end of its interval
+pub record IsWindow (bytes : List ℕ) (top range : ℕ) : Type 0 where
   pub least : 256 ≤ range
   pub most : range ≤ 65280
-  pub window : low + range ≤ 131072
-  pub within : number_in bytes * 65536 + low + range ≤ 65280 * 256 ^ length bytes
+  pub inside : range ≤ top
+  pub window : top ≤ 131072
+  pub within : number_in bytes * 65536 + top ≤ 65280 * 256 ^ length bytes

@@ -65,6 +65,15 @@ number_choices exponent magnitude negative signed =
 abbrev pub magnitude_choices : ℕ → Bool → Bool → List Choice
 magnitude_choices magnitude negative signed = number_choices (exponent_of magnitude) magnitude negative signed
 
+-- what stands behind the ones of its exponent, and all that stands behind the choice that it isn't 0
+abbrev pub tail_choices : ℕ → ℕ → Bool → Bool → List Choice
+tail_choices exponent magnitude negative signed =
+    choice (exponent_slot exponent) false ∷ [] ++ low_bits exponent magnitude ++ sign_choices signed exponent negative
+
+abbrev pub behind_choices : ℕ → Bool → Bool → List Choice
+behind_choices magnitude negative signed =
+    ones (exponent_of magnitude) ++ tail_choices (exponent_of magnitude) magnitude negative signed
+
 -- the choices of a symbol: whether it is 0, and if not, the number
 unfoldable pub symbol_choices : ℤ → Bool → List Choice
 symbol_choices value signed =

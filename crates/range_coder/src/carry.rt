@@ -8,6 +8,7 @@ use cook_bits::NoMemory;
 
 /// Adds a digit to the base 256 at the end, which may have a carry to the bytes before it. After a
 /// refusal the bytes are unchanged.
+#[inline(never)]
 pub(crate) fn push_digit(bytes: &mut Vec<u8>, digit: u32) -> Result<(), NoMemory>
     requires digit { digit < 512 }
     requires room { number_in bytes.old.items * 256 + digit < 256 ^ (length bytes.old.items + 1) }

@@ -22,13 +22,14 @@ pub struct Encoder {
 }
 
 impl Model for Encoder {
+    ghost use Rattle.std.specs.Prelude.{◌-◌};
     ghost use Rattle.range_coder.specs.Encoding.{Encoding, encoding_of, IsWindow};
 
     ghost Value = { Encoding };
 
-    ghost view = { λ e. encoding_of e.bytes e.window.low e.window.range };
+    ghost view = { λ e. encoding_of e.bytes (e.window.top - e.window.range) e.window.range };
 
-    ghost invariant = { λ e. IsWindow e.bytes.items e.window.low e.window.range };
+    ghost invariant = { λ e. IsWindow e.bytes.items e.window.top e.window.range };
 }
 
 impl Encoder {
@@ -39,7 +40,7 @@ impl Encoder {
         Encoder {
             bytes: Vec::new(alloc),
             window: Window {
-                low: 0,
+                top: 65280,
                 range: 65280,
             },
         }
@@ -138,7 +139,8 @@ impl Encoder {
     {
         let Encoder { bytes, window } = self;
         let mut bytes = bytes;
-        let (mut low, range) = part(window.low, window.range, 129, false);
+        let (top, range) = part(window.top, window.range, 129, false);
+        let mut low = top - range;
         if range < 256 {
             push_digit(&mut bytes, low / 256)?;
             low = low % 256 * 256;

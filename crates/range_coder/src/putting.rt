@@ -1,11 +1,11 @@
 // Numbers put as bits, each with the state of a slot of a set of 32 (RFC 9043, section 3.8.1.2). The window stands in a
 // local variable of the caller, so what is coded often is inlined.
 
-ghost use Rattle.std.specs.Prelude.{◌≡◌, ◌+◌, ◌*◌, ◌<◌, ◌≤◌, ◌++◌, [], ◌∷◌, length, OnOk, OnErr};
+ghost use Rattle.std.specs.Prelude.{◌≡◌, true, ◌+◌, ◌*◌, ◌<◌, ◌≤◌, ◌++◌, [], ◌∷◌, length, OnOk, OnErr};
 ghost use Rattle.range_coder.specs.Table.{IsClosed, AreLive};
 ghost use Rattle.range_coder.specs.Encoding.{IsWindow};
 ghost use Rattle.range_coder.specs.Held.{PutsIn, FrontIn};
-ghost use Rattle.range_coder.specs.Symbol.{IsCodable, symbol_choices, magnitude_choices, exponent_of, exponent_choices, ones, low_bits, sign_choices};
+ghost use Rattle.range_coder.specs.Symbol.{IsCodable, symbol_choices, choice, magnitude_choices, exponent_of, exponent_slot, exponent_choices, tail_choices, behind_choices, ones, low_bits, sign_choices};
 ghost use Rattle.range_coder.specs.Placing.{IsPlaced, ArePlaced, placed_symbol, placed_symbols};
 
 use crate::window::Window;
@@ -26,11 +26,11 @@ pub(crate) fn put_line(
 ) -> Result<(), NoMemory>
     requires live { AreLive table.now states.old }
     requires placed { ArePlaced (length states.old) signed symbols.now }
-    requires window { IsWindow bytes.old.items window.old.low window.old.range }
+    requires window { IsWindow bytes.old.items window.old.top window.old.range }
     ensures ok { OnOk result (PutsIn table.now window.old bytes.old states.old window.new bytes.new states.new (placed_symbols signed symbols.now)) }
     ensures err { OnErr result (FrontIn table.now window.old bytes.old states.old window.new bytes.new states.new (placed_symbols signed symbols.now)) }
     ensures live { AreLive table.now states.new }
-    ensures window { IsWindow bytes.new.items window.new.low window.new.range }
+    ensures window { IsWindow bytes.new.items window.new.top window.new.range }
 {
     for symbol in symbols {
         put_placed(window, bytes, table, states, *symbol, signed)?;
@@ -50,19 +50,18 @@ fn put_placed(
 ) -> Result<(), NoMemory>
     requires live { AreLive table.now states.old }
     requires placed { IsPlaced (length states.old) signed symbol }
-    requires window { IsWindow bytes.old.items window.old.low window.old.range }
+    requires window { IsWindow bytes.old.items window.old.top window.old.range }
     ensures ok { OnOk result (PutsIn table.now window.old bytes.old states.old window.new bytes.new states.new (placed_symbol signed symbol)) }
     ensures err { OnErr result (FrontIn table.now window.old bytes.old states.old window.new bytes.new states.new (placed_symbol signed symbol)) }
     ensures live { AreLive table.now states.new }
-    ensures window { IsWindow bytes.new.items window.new.low window.new.range }
+    ensures window { IsWindow bytes.new.items window.new.top window.new.range }
 {
     let first = symbol.first as usize;
     let set = &mut states[first..first + SET];
-    put_value(window, bytes, table, set, symbol.value, signed)
+    put_usual(window, bytes, table, set, symbol.value, signed)
 }
 
 /// Codes a number with a set.
-#[inline(always)]
 pub(crate) fn put_value(
     window: &mut Window,
     bytes: &mut Vec<u8>,
@@ -74,23 +73,60 @@ pub(crate) fn put_value(
     requires set { length set.old ≡ 32 }
     requires live { AreLive table.now set.old }
     requires codable { IsCodable value signed }
-    requires window { IsWindow bytes.old.items window.old.low window.old.range }
+    requires window { IsWindow bytes.old.items window.old.top window.old.range }
     ensures ok { OnOk result (PutsIn table.now window.old bytes.old set.old window.new bytes.new set.new (symbol_choices value signed)) }
     ensures err { OnErr result (FrontIn table.now window.old bytes.old set.old window.new bytes.new set.new (symbol_choices value signed)) }
     ensures live { AreLive table.now set.new }
     ensures closed { IsClosed table.now }
-    ensures window { IsWindow bytes.new.items window.new.low window.new.range }
+    ensures window { IsWindow bytes.new.items window.new.top window.new.range }
 {
     let magnitude = value.unsigned_abs();
     if magnitude == 0 {
         return window.put_slot(bytes, table, set, 0, true);
     }
-    put_number(window, bytes, table, set, magnitude, value < 0, signed)
+    let exponent = exponent_of(magnitude);
+    put_parts(
+        window,
+        bytes,
+        table,
+        set,
+        exponent,
+        magnitude,
+        value < 0,
+        signed,
+    )
 }
 
-// Codes a number that isn't 0. The usual exponents each have code of their own, whose slots are known.
-#[inline(always)]
-fn put_number(
+// Codes a number with a set. Each usual exponent has code of its own, in which its slots are known; it is inlined into
+// the line's loop, the one place that calls it.
+#[inline]
+fn put_usual(
+    window: &mut Window,
+    bytes: &mut Vec<u8>,
+    table: &Table,
+    set: &mut [u8],
+    value: i32,
+    signed: bool,
+) -> Result<(), NoMemory>
+    requires set { length set.old ≡ 32 }
+    requires live { AreLive table.now set.old }
+    requires codable { IsCodable value signed }
+    requires window { IsWindow bytes.old.items window.old.top window.old.range }
+    ensures ok { OnOk result (PutsIn table.now window.old bytes.old set.old window.new bytes.new set.new (symbol_choices value signed)) }
+    ensures err { OnErr result (FrontIn table.now window.old bytes.old set.old window.new bytes.new set.new (symbol_choices value signed)) }
+    ensures live { AreLive table.now set.new }
+    ensures window { IsWindow bytes.new.items window.new.top window.new.range }
+{
+    let magnitude = value.unsigned_abs();
+    if magnitude == 0 {
+        return window.put_slot(bytes, table, set, 0, true);
+    }
+    put_nonzero(window, bytes, table, set, magnitude, value < 0, signed)
+}
+
+// Codes a number that isn't 0.
+#[inline]
+fn put_nonzero(
     window: &mut Window,
     bytes: &mut Vec<u8>,
     table: &Table,
@@ -102,28 +138,108 @@ fn put_number(
     requires set { length set.old ≡ 32 }
     requires live { AreLive table.now set.old }
     requires some { 0 < magnitude }
-    requires window { IsWindow bytes.old.items window.old.low window.old.range }
+    requires window { IsWindow bytes.old.items window.old.top window.old.range }
     ensures ok { OnOk result (PutsIn table.now window.old bytes.old set.old window.new bytes.new set.new (magnitude_choices magnitude negative signed)) }
     ensures err { OnErr result (FrontIn table.now window.old bytes.old set.old window.new bytes.new set.new (magnitude_choices magnitude negative signed)) }
     ensures live { AreLive table.now set.new }
-    ensures closed { IsClosed table.now }
-    ensures window { IsWindow bytes.new.items window.new.low window.new.range }
+    ensures window { IsWindow bytes.new.items window.new.top window.new.range }
 {
-    let exponent = exponent_of(magnitude);
-    match exponent {
-        0 => put_parts(window, bytes, table, set, 0, magnitude, negative, signed),
-        1 => put_parts(window, bytes, table, set, 1, magnitude, negative, signed),
-        2 => put_parts(window, bytes, table, set, 2, magnitude, negative, signed),
-        3 => put_parts(window, bytes, table, set, 3, magnitude, negative, signed),
-        _ => put_large(
-            window, bytes, table, set, exponent, magnitude, negative, signed,
-        ),
-    }
+    window.put_slot(bytes, table, set, 0, false)?;
+    put_behind(window, bytes, table, set, magnitude, negative, signed)
 }
 
-// Codes a number of a larger exponent, with many bits, for which a call is cheap.
-#[inline(never)]
-fn put_large(
+// Codes a number behind the choice that it isn't 0.
+#[inline]
+fn put_behind(
+    window: &mut Window,
+    bytes: &mut Vec<u8>,
+    table: &Table,
+    set: &mut [u8],
+    magnitude: u32,
+    negative: bool,
+    signed: bool,
+) -> Result<(), NoMemory>
+    requires set { length set.old ≡ 32 }
+    requires live { AreLive table.now set.old }
+    requires some { 0 < magnitude }
+    requires window { IsWindow bytes.old.items window.old.top window.old.range }
+    ensures ok { OnOk result (PutsIn table.now window.old bytes.old set.old window.new bytes.new set.new (behind_choices magnitude negative signed)) }
+    ensures err { OnErr result (FrontIn table.now window.old bytes.old set.old window.new bytes.new set.new (behind_choices magnitude negative signed)) }
+    ensures live { AreLive table.now set.new }
+    ensures window { IsWindow bytes.new.items window.new.top window.new.range }
+{
+    if magnitude < 2 {
+        return put_tail(window, bytes, table, set, 0, magnitude, negative, signed);
+    }
+    put_one(window, bytes, table, set, 0)?;
+    if magnitude < 4 {
+        return put_tail(window, bytes, table, set, 1, magnitude, negative, signed);
+    }
+    put_one(window, bytes, table, set, 1)?;
+    if magnitude < 8 {
+        return put_tail(window, bytes, table, set, 2, magnitude, negative, signed);
+    }
+    put_one(window, bytes, table, set, 2)?;
+    if magnitude < 16 {
+        return put_tail(window, bytes, table, set, 3, magnitude, negative, signed);
+    }
+    put_one(window, bytes, table, set, 3)?;
+    if magnitude < 32 {
+        return put_tail(window, bytes, table, set, 4, magnitude, negative, signed);
+    }
+    put_one(window, bytes, table, set, 4)?;
+    if magnitude < 64 {
+        return put_tail(window, bytes, table, set, 5, magnitude, negative, signed);
+    }
+    put_one(window, bytes, table, set, 5)?;
+    if magnitude < 128 {
+        return put_tail(window, bytes, table, set, 6, magnitude, negative, signed);
+    }
+    put_one(window, bytes, table, set, 6)?;
+    if magnitude < 256 {
+        return put_tail(window, bytes, table, set, 7, magnitude, negative, signed);
+    }
+    put_one(window, bytes, table, set, 7)?;
+    if magnitude < 512 {
+        return put_tail(window, bytes, table, set, 8, magnitude, negative, signed);
+    }
+    put_one(window, bytes, table, set, 8)?;
+    if magnitude < 1024 {
+        return put_tail(window, bytes, table, set, 9, magnitude, negative, signed);
+    }
+    put_one(window, bytes, table, set, 9)?;
+    let exponent = exponent_of(magnitude);
+    for count in 10..exponent {
+        put_one(window, bytes, table, set, count)?;
+    }
+    put_tail(
+        window, bytes, table, set, exponent, magnitude, negative, signed,
+    )
+}
+
+// Codes that an exponent is more than so many.
+#[inline(always)]
+fn put_one(
+    window: &mut Window,
+    bytes: &mut Vec<u8>,
+    table: &Table,
+    set: &mut [u8],
+    count: usize,
+) -> Result<(), NoMemory>
+    requires set { length set.old ≡ 32 }
+    requires live { AreLive table.now set.old }
+    requires window { IsWindow bytes.old.items window.old.top window.old.range }
+    ensures ok { OnOk result (PutsIn table.now window.old bytes.old set.old window.new bytes.new set.new (choice (exponent_slot count) true ∷ [])) }
+    ensures err { OnErr result (FrontIn table.now window.old bytes.old set.old window.new bytes.new set.new (choice (exponent_slot count) true ∷ [])) }
+    ensures live { AreLive table.now set.new }
+    ensures window { IsWindow bytes.new.items window.new.top window.new.range }
+{
+    window.put_slot(bytes, table, set, 1 + count.min(9), true)
+}
+
+// Codes the end of an exponent and what stands behind it.
+#[inline(always)]
+fn put_tail(
     window: &mut Window,
     bytes: &mut Vec<u8>,
     table: &Table,
@@ -135,28 +251,17 @@ fn put_large(
 ) -> Result<(), NoMemory>
     requires set { length set.old ≡ 32 }
     requires live { AreLive table.now set.old }
-    requires exponent { exponent ≡ exponent_of magnitude }
-    requires high { exponent < 32 }
-    requires window { IsWindow bytes.old.items window.old.low window.old.range }
-    ensures ok { OnOk result (PutsIn table.now window.old bytes.old set.old window.new bytes.new set.new (magnitude_choices magnitude negative signed)) }
-    ensures err { OnErr result (FrontIn table.now window.old bytes.old set.old window.new bytes.new set.new (magnitude_choices magnitude negative signed)) }
+    requires exponent { exponent < 32 }
+    requires window { IsWindow bytes.old.items window.old.top window.old.range }
+    ensures ok { OnOk result (PutsIn table.now window.old bytes.old set.old window.new bytes.new set.new (tail_choices exponent magnitude negative signed)) }
+    ensures err { OnErr result (FrontIn table.now window.old bytes.old set.old window.new bytes.new set.new (tail_choices exponent magnitude negative signed)) }
     ensures live { AreLive table.now set.new }
-    ensures closed { IsClosed table.now }
-    ensures window { IsWindow bytes.new.items window.new.low window.new.range }
+    ensures window { IsWindow bytes.new.items window.new.top window.new.range }
 {
-    match exponent {
-        4 => put_parts(window, bytes, table, set, 4, magnitude, negative, signed),
-        5 => put_parts(window, bytes, table, set, 5, magnitude, negative, signed),
-        6 => put_parts(window, bytes, table, set, 6, magnitude, negative, signed),
-        7 => put_parts(window, bytes, table, set, 7, magnitude, negative, signed),
-        8 => put_parts(window, bytes, table, set, 8, magnitude, negative, signed),
-        9 => put_parts(window, bytes, table, set, 9, magnitude, negative, signed),
-        10 => put_parts(window, bytes, table, set, 10, magnitude, negative, signed),
-        11 => put_parts(window, bytes, table, set, 11, magnitude, negative, signed),
-        _ => put_parts(
-            window, bytes, table, set, exponent, magnitude, negative, signed,
-        ),
-    }
+    window.put_slot(bytes, table, set, 1 + exponent.min(9), false)?;
+    put_low_bits(window, bytes, table, set, exponent, magnitude)?;
+    put_sign(window, bytes, table, set, exponent, negative, signed)?;
+    Ok(())
 }
 
 // Codes a number that isn't 0, whose exponent is known.
@@ -175,12 +280,12 @@ fn put_parts(
     requires live { AreLive table.now set.old }
     requires exponent { exponent ≡ exponent_of magnitude }
     requires high { exponent < 32 }
-    requires window { IsWindow bytes.old.items window.old.low window.old.range }
+    requires window { IsWindow bytes.old.items window.old.top window.old.range }
     ensures ok { OnOk result (PutsIn table.now window.old bytes.old set.old window.new bytes.new set.new (magnitude_choices magnitude negative signed)) }
     ensures err { OnErr result (FrontIn table.now window.old bytes.old set.old window.new bytes.new set.new (magnitude_choices magnitude negative signed)) }
     ensures live { AreLive table.now set.new }
     ensures closed { IsClosed table.now }
-    ensures window { IsWindow bytes.new.items window.new.low window.new.range }
+    ensures window { IsWindow bytes.new.items window.new.top window.new.range }
 {
     window.put_slot(bytes, table, set, 0, false)?;
     put_exponent(window, bytes, table, set, exponent)?;
@@ -211,11 +316,11 @@ fn put_exponent(
     requires set { length set.old ≡ 32 }
     requires live { AreLive table.now set.old }
     requires exponent { exponent < 32 }
-    requires window { IsWindow bytes.old.items window.old.low window.old.range }
+    requires window { IsWindow bytes.old.items window.old.top window.old.range }
     ensures ok { OnOk result (PutsIn table.now window.old bytes.old set.old window.new bytes.new set.new (exponent_choices exponent)) }
     ensures err { OnErr result (FrontIn table.now window.old bytes.old set.old window.new bytes.new set.new (exponent_choices exponent)) }
     ensures live { AreLive table.now set.new }
-    ensures window { IsWindow bytes.new.items window.new.low window.new.range }
+    ensures window { IsWindow bytes.new.items window.new.top window.new.range }
 {
     put_ones(window, bytes, table, set, exponent)?;
     window.put_slot(bytes, table, set, 1 + exponent.min(9), false)?;
@@ -234,11 +339,11 @@ fn put_ones(
 ) -> Result<(), NoMemory>
     requires set { length set.old ≡ 32 }
     requires live { AreLive table.now set.old }
-    requires window { IsWindow bytes.old.items window.old.low window.old.range }
+    requires window { IsWindow bytes.old.items window.old.top window.old.range }
     ensures ok { OnOk result (PutsIn table.now window.old bytes.old set.old window.new bytes.new set.new (ones exponent)) }
     ensures err { OnErr result (FrontIn table.now window.old bytes.old set.old window.new bytes.new set.new (ones exponent)) }
     ensures live { AreLive table.now set.new }
-    ensures window { IsWindow bytes.new.items window.new.low window.new.range }
+    ensures window { IsWindow bytes.new.items window.new.top window.new.range }
 {
     for k in 0..exponent {
         window.put_slot(bytes, table, set, 1 + k.min(9), true)?;
@@ -260,11 +365,11 @@ fn put_low_bits(
     requires set { length set.old ≡ 32 }
     requires live { AreLive table.now set.old }
     requires exponent { exponent < 32 }
-    requires window { IsWindow bytes.old.items window.old.low window.old.range }
+    requires window { IsWindow bytes.old.items window.old.top window.old.range }
     ensures ok { OnOk result (PutsIn table.now window.old bytes.old set.old window.new bytes.new set.new (low_bits exponent magnitude)) }
     ensures err { OnErr result (FrontIn table.now window.old bytes.old set.old window.new bytes.new set.new (low_bits exponent magnitude)) }
     ensures live { AreLive table.now set.new }
-    ensures window { IsWindow bytes.new.items window.new.low window.new.range }
+    ensures window { IsWindow bytes.new.items window.new.top window.new.range }
 {
     for place in (0..exponent).rev() {
         window.put_slot(
@@ -291,11 +396,11 @@ fn put_sign(
 ) -> Result<(), NoMemory>
     requires set { length set.old ≡ 32 }
     requires live { AreLive table.now set.old }
-    requires window { IsWindow bytes.old.items window.old.low window.old.range }
+    requires window { IsWindow bytes.old.items window.old.top window.old.range }
     ensures ok { OnOk result (PutsIn table.now window.old bytes.old set.old window.new bytes.new set.new (sign_choices signed exponent negative)) }
     ensures err { OnErr result (FrontIn table.now window.old bytes.old set.old window.new bytes.new set.new (sign_choices signed exponent negative)) }
     ensures live { AreLive table.now set.new }
-    ensures window { IsWindow bytes.new.items window.new.low window.new.range }
+    ensures window { IsWindow bytes.new.items window.new.top window.new.range }
 {
     if signed {
         window.put_slot(bytes, table, set, 11 + exponent.min(10), negative)?;

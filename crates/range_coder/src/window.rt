@@ -1,5 +1,5 @@
 // The window of an encoder: the two numbers that change with each bit, apart from the bytes, so that they can stand
-// in local variables while a line is coded.
+// in local variables while a line is coded. It keeps the upper end of its interval, which bit 1 doesn't change.
 
 ghost use Rattle.std.specs.Prelude.{◌≡◌, ◌+◌, ◌-◌, ◌<◌, ◌≤◌, [], ◌∷◌, length, if◌then◌else◌, OnOk, OnErr};
 ghost use Rattle.range_coder.specs.Interval.{part_of_one, narrow};
@@ -12,10 +12,10 @@ use crate::Table;
 use crate::carry::push_digit;
 use cook_bits::NoMemory;
 
-/// Low end and range of an interval, as far as they stand below the bytes written.
+/// Upper end and range of an interval, as far as they stand below the bytes written.
 #[derive(Clone, Copy)]
 pub(crate) struct Window {
-    pub(crate) low: u32,
+    pub(crate) top: u32,
     pub(crate) range: u32,
 }
 
@@ -30,7 +30,7 @@ impl Window {
         bit: bool,
     ) -> Result<(), NoMemory>
         requires live { IsLive table.now state.old }
-        requires window { IsWindow bytes.old.items self.old.low self.old.range }
+        requires window { IsWindow bytes.old.items self.old.top self.old.range }
         ensures ok { OnOk result ((held self.new bytes.new).interval ≡ narrow (held self.old bytes.old).interval state.old bit) }
         ensures next { OnOk result (state.new ≡ next_state table.now state.old bit) }
         ensures err { OnErr result ((held self.new bytes.new).interval ≡ (held self.old bytes.old).interval) }
@@ -39,16 +39,17 @@ impl Window {
         ensures closed { IsClosed table.now }
         ensures room { OnErr result (spare_in bytes.old ≡ 0) }
         ensures spare { spare_in bytes.old ≤ spare_in bytes.new + 1 }
-        ensures window { IsWindow bytes.new.items self.new.low self.new.range }
+        ensures window { IsWindow bytes.new.items self.new.top self.new.range }
     {
         let next = table.next(*state, bit);
-        let (low, range) = part(self.low, self.range, *state, bit);
+        let (top, range) = part(self.top, self.range, *state, bit);
         if range < 256 {
+            let low = top - range;
             push_digit(bytes, low / 256)?;
-            self.low = low % 256 * 256;
+            self.top = low % 256 * 256 + range * 256;
             self.range = range * 256;
         } else {
-            self.low = low;
+            self.top = top;
             self.range = range;
         }
         *state = next;
@@ -67,34 +68,35 @@ impl Window {
     ) -> Result<(), NoMemory>
         requires slot { slot < length states.old }
         requires live { AreLive table.now states.old }
-        requires window { IsWindow bytes.old.items self.old.low self.old.range }
+        requires window { IsWindow bytes.old.items self.old.top self.old.range }
         ensures ok { OnOk result (PutsIn table.now self.old bytes.old states.old self.new bytes.new states.new (choice slot bit ∷ [])) }
         ensures err { OnErr result (FrontIn table.now self.old bytes.old states.old self.new bytes.new states.new (choice slot bit ∷ [])) }
         ensures live { AreLive table.now states.new }
         ensures closed { IsClosed table.now }
-        ensures window { IsWindow bytes.new.items self.new.low self.new.range }
+        ensures window { IsWindow bytes.new.items self.new.top self.new.range }
     {
         self.put(bytes, table, &mut states[slot], bit)?;
         Ok(())
     }
 }
 
-/// The part of a window that a bit has: its low end and its range.
+/// The part of a window that a bit has: its upper end and its range.
 #[inline(always)]
-pub(crate) fn part(low: u32, range: u32, state: u8, bit: bool) -> (u32, u32)
+pub(crate) fn part(top: u32, range: u32, state: u8, bit: bool) -> (u32, u32)
     requires usable { IsState state }
     requires least { 256 ≤ range }
     requires most { range ≤ 65280 }
-    requires window { low + range ≤ 131072 }
-    ensures low { result.0 ≡ (if bit then low + (range - part_of_one range state) else low) }
+    requires within { range ≤ top }
+    ensures top { result.0 ≡ (if bit then top else top - part_of_one range state) }
     ensures range { result.1 ≡ (if bit then part_of_one range state else range - part_of_one range state) }
     ensures some { 1 ≤ result.1 }
-    ensures window { result.0 + result.1 ≤ low + range }
+    ensures within { result.1 ≤ result.0 }
+    ensures below { result.0 ≤ top }
 {
     let ones = range * u32::from(state) / 256;
     if bit {
-        (low + (range - ones), ones)
+        (top, ones)
     } else {
-        (low, range - ones)
+        (top - ones, range - ones)
     }
 }

@@ -6,4 +6,4 @@ use Rattle.range_coder.proofs.putting.put_ones.Given as goal
 
 abbrev pub invariant-loop-k : goal.invariant-loop-k
 invariant-loop-k l =
-    HasPut l.table (held l.initial.window l.initial.bytes) l.initial.set (held l.window l.bytes) l.set (ones l.k) × IsWindow l.bytes.items l.window.low l.window.range
+    HasPut l.table (held l.initial.window l.initial.bytes) l.initial.set (held l.window l.bytes) l.set (ones l.k) × IsWindow l.bytes.items l.window.top l.window.range

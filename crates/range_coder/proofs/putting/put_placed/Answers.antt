@@ -11,16 +11,16 @@ returns-clause-ok c =
     let set : c.args.symbol.first + 32 - c.args.symbol.first ≡ 32 = omega arith in
     let fits : SFits w32 c.args.symbol.value = search rules in
     let same : to_z w32 (of_z w32 c.args.symbol.value) ≡ c.args.symbol.value = to_z-of_z w32 c.args.symbol.value fits in
-    on_ok_weaker c.put_value.result (λ p. puts_set _ _ _ _ _ _ _ _ set c.requires.placed.within (symbol_slots c.args.symbol.value c.args.signed) (rw same at p)) c.put_value.ensures.ok
+    on_ok_weaker c.put_usual.result (λ p. puts_set _ _ _ _ _ _ _ _ set c.requires.placed.within (symbol_slots c.args.symbol.value c.args.signed) (rw same at p)) c.put_usual.ensures.ok
 
 pub returns-clause-err : goal.returns-clause-err
 returns-clause-err c =
     let set : c.args.symbol.first + 32 - c.args.symbol.first ≡ 32 = omega arith in
     let fits : SFits w32 c.args.symbol.value = search rules in
     let same : to_z w32 (of_z w32 c.args.symbol.value) ≡ c.args.symbol.value = to_z-of_z w32 c.args.symbol.value fits in
-    on_err_weaker c.put_value.result (λ p. front_set _ _ _ _ _ _ _ _ set c.requires.placed.within (symbol_slots c.args.symbol.value c.args.signed) (rw same at p)) c.put_value.ensures.err
+    on_err_weaker c.put_usual.result (λ p. front_set _ _ _ _ _ _ _ _ set c.requires.placed.within (symbol_slots c.args.symbol.value c.args.signed) (rw same at p)) c.put_usual.ensures.err
 
 pub returns-clause-live : goal.returns-clause-live
 returns-clause-live c =
     let set : c.args.symbol.first + 32 - c.args.symbol.first ≡ 32 = omega arith in
-    live_set_mid _ _ _ _ _ set c.requires.placed.within c.requires.live c.put_value.ensures.live
+    live_set_mid _ _ _ _ _ set c.requires.placed.within c.requires.live c.put_usual.ensures.live

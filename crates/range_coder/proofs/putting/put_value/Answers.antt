@@ -24,11 +24,11 @@ returns-clause-ok c =
     let is : c.unsigned_abs-magnitude.result ≡ unsigned_abs c.args.value = c.unsigned_abs-magnitude.ensures.value ∙ ap unsigned_abs (to_z-of_z w32 c.args.value c.ranges.value) in
     let sign = sym (ap is_negative (to_z-of_z w32 c.args.value c.ranges.value)) in
     let some : 0 < c.unsigned_abs-magnitude.result = omega arith in
-    symbol_by_number (λ (cs : List Choice). OnOk c.put_number.result (Puts c.args.table.now (held c.args.window.now c.args.bytes.now) c.args.set.now (held c.put_number.new.window c.put_number.new.bytes) c.put_number.new.set cs)) c.args.value c.args.signed _ c.unsigned_abs-magnitude.result (sym is) sign some c.put_number.ensures.ok
+    symbol_by_number (λ (cs : List Choice). OnOk c.put_parts.result (Puts c.args.table.now (held c.args.window.now c.args.bytes.now) c.args.set.now (held c.put_parts.new.window c.put_parts.new.bytes) c.put_parts.new.set cs)) c.args.value c.args.signed _ c.unsigned_abs-magnitude.result (sym is) sign some c.put_parts.ensures.ok
 
 pub returns-clause-err : goal.returns-clause-err
 returns-clause-err c =
     let is : c.unsigned_abs-magnitude.result ≡ unsigned_abs c.args.value = c.unsigned_abs-magnitude.ensures.value ∙ ap unsigned_abs (to_z-of_z w32 c.args.value c.ranges.value) in
     let sign = sym (ap is_negative (to_z-of_z w32 c.args.value c.ranges.value)) in
     let some : 0 < c.unsigned_abs-magnitude.result = omega arith in
-    symbol_by_number (λ (cs : List Choice). OnErr c.put_number.result (PutsFront c.args.table.now (held c.args.window.now c.args.bytes.now) c.args.set.now (held c.put_number.new.window c.put_number.new.bytes) c.put_number.new.set cs)) c.args.value c.args.signed _ c.unsigned_abs-magnitude.result (sym is) sign some c.put_number.ensures.err
+    symbol_by_number (λ (cs : List Choice). OnErr c.put_parts.result (PutsFront c.args.table.now (held c.args.window.now c.args.bytes.now) c.args.set.now (held c.put_parts.new.window c.put_parts.new.bytes) c.put_parts.new.set cs)) c.args.value c.args.signed _ c.unsigned_abs-magnitude.result (sym is) sign some c.put_parts.ensures.err
