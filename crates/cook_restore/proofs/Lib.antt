@@ -3,6 +3,7 @@ pub mod FileLaws
 pub mod GiveLaws
 pub mod HeadLaws
 pub mod MeaningLaws
+pub mod NameLaws
 pub mod NextLaws
 pub mod NumberLaws
 pub mod OpenLaws

@@ -1,15 +1,18 @@
 // A file is given back: its content is checked whole, then written in the target, and sealed.
-ghost use Rattle.std.specs.Prelude.{◌≡◌, ◌+◌, ◌<◌, ◌≤◌, ◌^◌, length, Some, IfOk, IfErr, OnOk, OnErr, IfSome};
-ghost use Rattle.shelf_core.specs.Reads.{CountsStay, Has, Differ, IsUnsealed, OnlyReads, Caused};
+ghost use Rattle.std.specs.Prelude.{◌≡◌, ◌+◌, ◌<◌, ◌≤◌, ◌^◌, length, true, Some, IfOk, IfErr, OnOk, OnErr, IfSome};
+ghost use Rattle.name_tree.specs.Held.{is_among};
+ghost use Rattle.shelf_core.specs.Reads.{CountsStay, Has, Differ, IsUnsealed, OnlyReads};
 ghost use Rattle.cook_restore.specs.Contents.{PlaceEndsBy};
 ghost use Rattle.cook_restore.specs.Giving.{AddsContent, IsChecked, IsHeld, NotChecked, NotAdded, NotWritten, WritesContent, IsContentGiven, NotGiven, asked_of};
 
 use crate::FileWhy;
 use crate::contents::Content;
+use crate::folders::make_folders;
 use crate::stop::Stop;
 use cook_bits::full_name;
+use name_tree::NameTree;
 use reversal::FileRecord;
-use shelf_core::{Shelf, ShelfError};
+use shelf_core::Shelf;
 use shelf_parts::{Part, copy_part, sum_part};
 use std::alloc::Global;
 
@@ -29,8 +32,6 @@ pub struct Task<'a> {
     pub content: Option<Content>,
     /// The root under which it is to stand, if it is to be written.
     pub target: Option<&'a str>,
-    /// The relative name of the file that was given before it; the first has none.
-    pub before: &'a str,
 }
 
 // Checks the content of a file: it is attached, and of the length and the sum that its record says. One that fits the
@@ -66,29 +67,6 @@ fn checked_content<S: Shelf>(
         Ok(_) => Err(Stop::File(FileWhy::Sum)),
         Err(error) => Err(Stop::of_piece(pkg.len, error)),
     }
-}
-
-// How many bytes two texts have in common at their front.
-fn common_front(text: &str, other: &str) -> usize {
-    let pairs = text.bytes().zip(other.bytes());
-    pairs.take_while(|(byte, other)| byte == other).count()
-}
-
-// Makes the folders in which a file of this full name is to stand, the shorter first. Those whose names end within the
-// first `known` bytes are there already.
-fn make_folders<S: Shelf>(shelf: &mut S, full: &str, known: usize) -> Result<(), ShelfError>
-    ensures kept { OnlyReads S.Shelf shelf.old shelf.new }
-    ensures cause { Caused S.Shelf ShelfError.Failed ShelfError.NoMemory shelf.old shelf.new result }
-{
-    let bytes = full.as_bytes();
-    for at in known..bytes.len() {
-        if bytes[at] == b'/' {
-            if let Some(folder) = full.get(..at) {
-                shelf.make_folder(folder)?;
-            }
-        }
-    }
-    Ok(())
 }
 
 // Adds a checked content to the end of a file: from the buffer where it is held there, and else by reading it again. Other
@@ -154,31 +132,30 @@ fn write_content<S: Shelf>(
     Ok(())
 }
 
-/// Gives a file: checks its content whole, then writes it under the target, if there is one, and seals it. Answers the
-/// length of the content in bytes.
+/// Gives a file: checks its content whole, then makes those of its folders that were not made before, writes it under the
+/// target, if there is one, and seals it. Answers the length of the content in bytes.
 pub fn give<S: Shelf>(
     alloc: Global,
     shelf: &mut S,
     pkg: Package<'_>,
     task: Task<'_>,
+    names: &mut NameTree,
     buffer: &mut [u8],
 ) -> Result<u64, Stop>
     requires there { Has S.Shelf shelf.old pkg.name.now }
+    requires listed { is_among names.old.names task.said.now.name ≡ true }
     requires ends { IfSome task.content (PlaceEndsBy pkg.len) }
     requires room { 0 < length buffer.old }
     ensures given { IfOk result (IsContentGiven S.Shelf shelf.old shelf.new (asked_of pkg.entry task.entry)) }
     ensures stopped { IfErr result (NotGiven S.Shelf shelf.old shelf.new (asked_of pkg.entry task.entry)) }
     ensures counts { CountsStay S.Shelf shelf.old shelf.new }
+    ensures names { names.new.names ≡ names.old.names }
 {
     let content = checked_content(shelf, pkg, task, buffer)?;
     if let Some(dir) = task.target {
         let name = task.said.name.as_str();
         let full = full_name(alloc, dir, name)?;
-        let known = dir
-            .len()
-            .saturating_add(1)
-            .saturating_add(common_front(name, task.before));
-        make_folders(shelf, full.as_str(), known)?;
+        make_folders(shelf, names, name, full.as_str())?;
         write_content(shelf, pkg, task.said, content, full.as_str(), buffer)?;
     }
     Ok(content.len)

@@ -3,6 +3,7 @@
 
 mod contents;
 mod error;
+mod folders;
 mod giving;
 pub mod laws;
 mod matroska_read;

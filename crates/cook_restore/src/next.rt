@@ -9,7 +9,6 @@ use crate::giving::{Package, Task, give};
 use crate::stop::Stop;
 use crate::{FileError, FileSum, Restorer};
 use cook_bits::Name;
-use reversal::FileRecord;
 use shelf_core::Shelf;
 use std::alloc::Global;
 
@@ -23,20 +22,10 @@ fn root_of(target: &Option<Name>) -> Option<&str>
     }
 }
 
-// The name of the record before that of a number; the first has none.
-fn name_before(records: &[FileRecord], number: usize) -> &str
-    requires { number ≤ length records.now }
-{
-    match number.checked_sub(1) {
-        Some(before) => records[before].name.as_str(),
-        None => "",
-    }
-}
-
 impl Restorer {
     /// Gives the next file. Its content is read whole and checked by its length and its MD5, and only then its file is
     /// created in the target, written, and sealed. A content that doesn't fit the buffer is read a second time for that. Before
-    /// the file is created the folders of its name are made.
+    /// the file is created the folders of its name are made, the shorter first and each once for all files.
     ///
     /// The answer is `None` where all files were given or an earlier call was refused. `File` comes where the meaning of the
     /// package ends with this file's fault, `InTheWay` where a file of its full name is there, `Changed` where the package
@@ -99,8 +88,14 @@ impl Restorer {
             said: &self.records[number],
             content: self.contents[number],
             target: root_of(&self.target),
-            before: name_before(&self.records, number),
         };
-        give(alloc, shelf, package, task, self.buffer.as_mut_slice())
+        give(
+            alloc,
+            shelf,
+            package,
+            task,
+            &mut self.names,
+            self.buffer.as_mut_slice(),
+        )
     }
 }

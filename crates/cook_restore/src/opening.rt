@@ -2,10 +2,12 @@
 ghost use Rattle.std.specs.Prelude.{◌≡◌, ◌+◌, ◌<◌, ◌≤◌, ◌^◌, length, IfOk, IfErr, OnOk};
 ghost use Rattle.std.specs.Option.{option_map};
 ghost use Rattle.shelf_core.specs.Reads.{OnlyReads, Has};
+ghost use Rattle.reversal.specs.SideData.{AreNames, names_of};
 ghost use Rattle.cook_restore.specs.Inside.{AllEndBy};
 ghost use Rattle.cook_restore.specs.Restoring.{AreBytesOf, AreRecordsOf, IsOutlineOf, StopsOpening, OpensOn, IsLenOf, NotOutlined, NotRead, NotRecorded, IsMissing};
 
 use crate::contents::{contents_of, side_number};
+use crate::folders::tree_of;
 use crate::{FileAt, Outline, OutlineError, PackageWhy, RestoreError, Restorer, outline};
 use cook_bits::{Name, NoMemory};
 use reversal::{FileRecord, SideError};
@@ -136,6 +138,7 @@ fn package_records<S: Shelf>(
     requires within { AllEndBy len files.now }
     ensures records { IfOk result (λ records. AreRecordsOf S.Shelf shelf.old pkg.now files.now records.items) }
     ensures few { IfOk result (λ records. length records.items < 2 ^ 32) }
+    ensures named { IfOk result (λ records. AreNames (names_of records.items)) }
     ensures stopped { IfErr result (StopsOpening S.Shelf shelf.old shelf.new pkg.now) }
     ensures kept { OnlyReads S.Shelf shelf.old shelf.new }
 {
@@ -198,6 +201,7 @@ pub fn open_package<S: Shelf>(
     let outline = package_outline(alloc, shelf, pkg, len)?;
     let records = package_records(alloc, shelf, pkg, len, outline.files())?;
     let contents = contents_of(alloc, outline.files(), &records)?;
+    let names = tree_of(alloc, &records)?;
     let room = room_for(records.as_slice());
     Ok(Restorer {
         pkg: Name::copy(alloc, pkg)?,
@@ -208,6 +212,7 @@ pub fn open_package<S: Shelf>(
         target: target_name(alloc, target)?,
         number: 0,
         ended: false,
+        names,
         buffer: buffer_of(alloc, room)?,
     })
 }

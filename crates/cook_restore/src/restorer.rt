@@ -8,6 +8,7 @@ ghost use Rattle.cook_restore.specs.Inside.{EndsBy};
 use crate::Outline;
 use crate::contents::Content;
 use cook_bits::Name;
+use name_tree::NameTree;
 use reversal::FileRecord;
 
 /// A file that was given.
@@ -30,10 +31,13 @@ pub struct Restorer {
     pub(crate) target: Option<Name>,
     pub(crate) number: u32,
     pub(crate) ended: bool,
+    // the names of the records, and the folders that were made
+    pub(crate) names: NameTree,
     pub(crate) buffer: Vec<u8>,
     ghost few: { length records.items < 2 ^ 32 },
     ghost within: { All (EndsBy len) outline } by { Prim.hlevel props },
     ghost placed: { contents.items ≡ content_places outline records.items },
+    ghost held: { names.names ≡ names_of records.items },
     ghost room: { 0 < length buffer.items },
 }
 

@@ -261,6 +261,23 @@ fn folders_are_made_before_what_stands_in_them(rt: HostRuntime) -> Result<(), Fa
     Ok(())
 }
 
+const SHARED: [File<'static>; 3] = [("d/a/b/y", b"1"), ("d/a/x", b"2"), ("d/c", b"3")];
+
+// A folder that several files stand in is made once, and no other is made.
+#[test]
+fn no_folder_is_made_twice(rt: HostRuntime) -> Result<(), Fail> {
+    let package = package_of(&rt, rt.alloc(), &SHARED)?;
+    let mut shelf = shelf_with(rt.alloc(), "p", package.as_slice(), None)?;
+    let report = "restored 3 files, 3 bytes\n";
+    ends(&rt, rt.alloc(), &mut shelf, "restore p t", 0, report)?;
+    let wanted = ["t", "t/a", "t/a/b"];
+    assert_eq!(rt; shelf.folders.len(), wanted.len());
+    for (folder, name) in shelf.folders.as_slice().iter().zip(&wanted) {
+        assert_eq!(rt; folder.as_str(), *name);
+    }
+    Ok(())
+}
+
 // The place at which a text stands first.
 fn place_in(bytes: &[u8], text: &[u8]) -> Option<usize> {
     for place in 0..bytes.len() {

@@ -3,11 +3,15 @@ use Rattle.std.specs.Prelude.{IfSome, IfOk, IfErr}
 use Rattle.cook_restore.specs.Contents.{PlaceEndsBy}
 use Rattle.cook_restore.specs.Giving.{IsContentGiven, NotGiven}
 use Rattle.cook_restore.specs.Restoring.{no_record, record_at}
+use Rattle.cook_restore.proofs.NameLaws.{listed-in}
 use Rattle.cook_restore.proofs.NextLaws.{asked-there, at-any, place-at, place-ends, places-length}
 use Rattle.cook_restore.proofs.restorer.Restorer.give_file.Goals as goal
 
 pub index-requires-2 : goal.index-requires-2
 index-requires-2 g c = omega (arith, places-length _ _ _ c.args.self.now.placed, c.requires.inside)
+
+pub give-requires-clause-listed : goal.give-requires-clause-listed
+give-requires-clause-listed g c = listed-in _ _ c.args.number _ c.args.self.now.held c.requires.inside (c.index.ensures ∙ at-any _ _ _ no_record c.requires.inside)
 
 pub give-requires-clause-ends : goal.give-requires-clause-ends
 give-requires-clause-ends g c =
