@@ -6,5 +6,6 @@ pub mod MeaningLaws
 pub mod NextLaws
 pub mod NumberLaws
 pub mod OpenLaws
+pub mod PlacesLaws
 pub mod SpelledWalk
 pub mod TopLaws
