@@ -26,6 +26,10 @@ impl OutlineCase {
         match cook_restore::outline(alloc, &mut shelf, PACKAGE, len) {
             Ok(outline) => outline_told(alloc, &outline),
             Err(OutlineError::Shape { place }) => Ok(format!(in alloc; "Shape {place}")?),
+            Err(OutlineError::Encoded { track }) => Ok(format!(in alloc; "Encoded {track}")?),
+            Err(OutlineError::TrackUnknown { track }) => {
+                Ok(format!(in alloc; "TrackUnknown {track}")?)
+            }
             Err(OutlineError::NoMemory) => Err(Stop::NoMemory),
             Err(OutlineError::Short { .. } | OutlineError::Failed) => Err(Stop::OutOfRange),
         }

@@ -7,8 +7,7 @@ use Rattle.std.proofs.lemmas.Bool.Decides.{nat_tests}
 use Rattle.std.specs.List.{position, position_or_len}
 use Rattle.cook_bits.specs.Names.{is_same_name}
 use Rattle.reversal.specs.declared.record.FileRecord.{FileRecord}
-use Rattle.cook_restore.specs.Contents.{place_of, place_or, content_place, content_places}
-use Rattle.cook_restore.specs.Meaning.{attached_as, others_of}
+use Rattle.cook_restore.specs.Contents.{attached_as, others_of, place_of, place_or, content_place, content_places}
 use Rattle.cook_restore.specs.declared.contents.Content.{Content}
 use Rattle.cook_restore.specs.declared.matroska_read.files.FileAt.{FileAt}
 

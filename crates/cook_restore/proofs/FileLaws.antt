@@ -1,5 +1,5 @@
 -- Laws of where the files of an outline end.
-use Rattle.std.proofs.Common.{◌≡◌, ℕ, ◌-◌, Bool, List, [], ◌∷◌, ◌++◌, Ok, Err, subst}
+use Rattle.std.proofs.Common.{◌≡◌, ℕ, ◌-◌, Bool, List, [], ◌∷◌, ◌++◌, All, Option, Some, None, unwrap_or, IfSome, Ok, Err, subst}
 use Rattle.std.proofs.lemmas.List.Elements.{All-nil, All-push}
 use Rattle.shelf_reader.specs.declared.error.ReadError.{ReadError}
 use Rattle.shelf_reader.specs.Readings.{gives, answers, Answers}
@@ -8,8 +8,9 @@ use Rattle.shelf_reader.proofs.ReadingLaws.{gives-is, looks-on, looks-stops}
 use Rattle.cook_restore.specs.declared.matroska_read.error.OutlineFault.{OutlineFault}
 use Rattle.cook_restore.specs.declared.matroska_read.files.FileAt.{FileAt}
 use Rattle.cook_restore.specs.declared.matroska_read.parts.Span.{Span}
-use Rattle.cook_restore.specs.Inside.{EndsBy, AllEndBy, AreSpans}
-use Rattle.cook_restore.specs.Outline.{side_media_type, no_fields, file_at}
+use Rattle.cook_restore.specs.declared.matroska_read.parts.SegmentSeen.{SegmentSeen}
+use Rattle.cook_restore.specs.Inside.{BlockEndsBy, EndsBy, AllEndBy, AreSpans, KeepsWithin, SegmentEndsBy}
+use Rattle.cook_restore.specs.Outline.{side_media_type, no_fields, file_at, places_seen}
 
 pub AllEndBy-none : (end : ℕ) → AllEndBy end []
 unfolding AllEndBy
@@ -18,6 +19,15 @@ AllEndBy-none end = All-nil (EndsBy end)
 pub AllEndBy-one_more : (end : ℕ) (files : List FileAt) (file : FileAt) → AllEndBy end files → EndsBy end file → AllEndBy end (files ++ file ∷ [])
 unfolding AllEndBy
 AllEndBy-one_more end files file all one = All-push (EndsBy end) files file all one
+
+all-end : (end : ℕ) (o : Option (List FileAt)) → IfSome o (AllEndBy end) → All (EndsBy end) (unwrap_or o [])
+unfolding AllEndBy
+all-end end None ends = All-nil (EndsBy end)
+all-end end (Some files) ends = ends
+
+-- an outline keeps within, where the files do that were seen
+pub KeepsWithin-seen : (end : ℕ) (seen : SegmentSeen) → SegmentEndsBy end seen → KeepsWithin end (places_seen seen)
+KeepsWithin-seen end seen ends = record { blocks = All-nil (BlockEndsBy end); files = all-end end seen.files ends }
 
 -- nothing that was seen of an AttachedFile keeps inside
 pub AreSpans-none : (end : ℕ) → AreSpans end no_fields
@@ -44,6 +54,6 @@ file_at-stops known between_known name media content named error same first seco
     looks-on known (between name.start name.end) _ named (Err error) first
     (looks-stops known (is_text_between side_media_type media.start media.end) _ error (subst (λ (k : Seen). Answers k (answers (is_text_between side_media_type media.start media.end)) (Err error)) same second))
 
-pub ruleset ends_laws = (AllEndBy-none, AllEndBy-one_more)
+pub ruleset ends_laws = (AllEndBy-none, AllEndBy-one_more, KeepsWithin-seen)
 
 pub ruleset field_laws = (AreSpans-none)

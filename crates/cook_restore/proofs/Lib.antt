@@ -7,5 +7,6 @@ pub mod NameLaws
 pub mod NextLaws
 pub mod NumberLaws
 pub mod OpenLaws
+pub mod PlacesLaws
 pub mod SpelledWalk
 pub mod TopLaws

@@ -14,15 +14,15 @@ use Rattle.reversal.specs.SideReading.{side_read}
 use Rattle.reversal.specs.declared.record.FileRecord.{FileRecord}
 use Rattle.reversal.specs.declared.error.SideError.{SideError}
 use Rattle.reversal.proofs.Found.{names_in_order}
-use Rattle.cook_restore.specs.Meaning.{Meaning, meaning_of, outline_meant, side_meant, records_meant, files_meant, with_file_meant, content_meant, side_of, bytes_at}
-use Rattle.cook_restore.specs.Outline.{outline_of}
+use Rattle.cook_restore.specs.Meaning.{Meaning, meaning_of, outline_meant, side_meant, records_meant, files_meant, with_file_meant, content_meant, side_seen}
+use Rattle.cook_restore.specs.Outline.{places_of, outline_of}
+use Rattle.cook_restore.specs.Places.{Places, Attached, Outline, outline_at}
 use Rattle.cook_restore.specs.Restoring.{AreSideRecords, IsMeant, IsEnd}
 use Rattle.cook_restore.specs.declared.matroska_read.error.OutlineFault.{OutlineFault}
-use Rattle.cook_restore.specs.declared.matroska_read.error.OutlineFault.TheVariants as outlined
-use Rattle.cook_restore.specs.declared.matroska_read.files.FileAt.{FileAt}
 use Rattle.cook_restore.specs.declared.error.FileWhy.{FileWhy}
 use Rattle.cook_restore.specs.declared.error.PackageWhy.{PackageWhy}
 use Rattle.cook_restore.specs.declared.error.PackageWhy.TheVariants as faults
+use Rattle.cook_restore.proofs.PlacesLaws.{outline-is}
 
 abbrev pub Find : Type 0
 Find = FileRecord → Result (List ℕ) FileWhy
@@ -127,32 +127,31 @@ no-names = front-in-order 0 [] (record { relative = λ i d inside. absurd (omega
 abbrev AreInOrder : Meaning → Type 0
 AreInOrder meaning = AreNames (map (λ (file : File). file.0) meaning.files)
 
-records-in-order : (attached : List FileAt) (bytes side : List ℕ) (o : Result (List FileRecord) SideError) → side_read side ≡ o → AreInOrder (records_meant attached bytes o)
+records-in-order : (outline : Outline) (side : List ℕ) (o : Result (List FileRecord) SideError) → side_read side ≡ o → AreInOrder (records_meant outline o)
 unfolding records_meant
-records-in-order attached bytes side (Ok records) is = subst AreNames (sym (names-meant (content_meant attached bytes) records)) (front-in-order _ (names_of records) (names_in_order side records is))
-records-in-order attached bytes side (Err error) is = no-names
+records-in-order outline side (Ok records) is = subst AreNames (sym (names-meant (content_meant outline) records)) (front-in-order _ (names_of records) (names_in_order side records is))
+records-in-order outline side (Err error) is = no-names
 
-side-in-order : (attached : List FileAt) (bytes : List ℕ) (o : Option FileAt) → AreInOrder (side_meant attached bytes o)
+side-in-order : (outline : Outline) (o : Option Attached) → AreInOrder (side_meant outline o)
 unfolding side_meant
-side-in-order attached bytes None = no-names
-side-in-order attached bytes (Some side) = records-in-order attached bytes (bytes_at side bytes) (side_read (bytes_at side bytes)) refl
+side-in-order outline None = no-names
+side-in-order outline (Some side) = records-in-order outline side.content (side_read side.content) refl
 
-outline-in-order : (bytes : List ℕ) (o : Result (List FileAt) OutlineFault) → AreInOrder (outline_meant bytes o)
+outline-in-order : (o : Result Outline OutlineFault) → AreInOrder (outline_meant o)
 unfolding outline_meant
-outline-in-order bytes (Ok attached) = side-in-order attached bytes (side_of attached)
-outline-in-order bytes (Err (outlined.Shape place)) = no-names
+outline-in-order (Ok outline) = side-in-order outline (side_seen outline.files)
+outline-in-order (Err fault) = no-names
 
 -- the names of the files that a package means are relative, rise, and none is under another
 pub files_in_order : (bytes : List ℕ) → AreNames (map (λ (file : File). file.0) (meaning_of bytes).files)
 unfolding meaning_of
-files_in_order bytes = outline-in-order bytes (outline_of bytes)
+files_in_order bytes = outline-in-order (outline_of bytes)
 
 -- ---- the meaning by the outline and the records
 
-records-meaning : (attached : List FileAt) (bytes : List ℕ) (o : Result (List FileRecord) SideError) (records : List FileRecord) → o ≡ Ok records → records_meant attached bytes o ≡ files_meant (content_meant attached bytes) records
-unfolding records_meant
-records-meaning attached bytes o records is = rw is refl
+pub meaning-by : (bytes : List ℕ) (outline : Outline) (records : List FileRecord) → outline_of bytes ≡ Ok outline → AreSideRecords outline records → meaning_of bytes ≡ files_meant (content_meant outline) records
+unfolding meaning_of outline_meant side_meant records_meant
+meaning-by bytes outline records outlined are = rw (outlined, are.is_side, are.read) refl
 
-pub meaning-is : (bytes : List ℕ) (attached : List FileAt) (records : List FileRecord) → outline_of bytes ≡ Ok attached → AreSideRecords attached bytes records → meaning_of bytes ≡ files_meant (content_meant attached bytes) records
-unfolding meaning_of outline_meant side_meant
-meaning-is bytes attached records outlined are = rw (outlined, are.is_side) (records-meaning attached bytes (side_read (bytes_at are.side bytes)) records are.read)
+pub meaning-is : (bytes : List ℕ) (places : Places) (records : List FileRecord) → places_of bytes ≡ Ok places → AreSideRecords (outline_at places bytes) records → meaning_of bytes ≡ files_meant (content_meant (outline_at places bytes)) records
+meaning-is bytes places records outlined are = meaning-by bytes (outline_at places bytes) records (outline-is bytes places outlined) are

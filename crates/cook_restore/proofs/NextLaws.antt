@@ -9,10 +9,11 @@ use Rattle.shelf_core.specs.declared.shelf.Shelf.{Ghosts}
 use Rattle.shelf_core.specs.Told.{Told, HasFile, IsFree, Pending, content, with_file}
 use Rattle.shelf_core.proofs.FileLaws.{HasFile-with_file, IsApart-there, content-apart}
 use Rattle.reversal.specs.declared.record.FileRecord.{FileRecord}
-use Rattle.cook_restore.specs.Contents.{content_found, content_place, content_places, place_or, PlaceEndsBy}
+use Rattle.cook_restore.specs.Contents.{attached_as, others_of, content_found, content_place, content_places, place_or, PlaceEndsBy}
 use Rattle.cook_restore.specs.Giving.{Asked, asked_there, asked_at, Means, IsContentGiven, NotGiven, LeavesContent, numbered}
 use Rattle.cook_restore.specs.Inside.{EndsBy}
-use Rattle.cook_restore.specs.Meaning.{meaning_of, files_meant, content_meant, content_at, bytes_at, attached_as, others_of}
+use Rattle.cook_restore.specs.Meaning.{meaning_of, files_meant, content_meant}
+use Rattle.cook_restore.specs.Places.{Places, outline_at}
 use Rattle.cook_restore.specs.Restoring.{Fits, AreSideRecords, IsMeant, IsMeantWhereTold, IsEnd, IsEndWhereTold, IsThrough, GivesNext, IsNotGiven, LeavesNext, KeepsPackage, next_name, no_record, record_at, with_given, HasFileIn, IsFreeIn}
 use Rattle.cook_restore.specs.declared.contents.Content.{Content}
 use Rattle.cook_restore.specs.declared.matroska_read.files.FileAt.{FileAt}
@@ -23,18 +24,9 @@ use Rattle.cook_restore.specs.declared.restorer.FileSum.{FileSum}
 use Rattle.cook_restore.specs.declared.stop.Stop.{Stop}
 use Rattle.cook_restore.specs.declared.stop.Stop.TheVariants as stop
 use Rattle.cook_restore.proofs.MeaningLaws.{meaning-is, meant-next, meant-fault, meant-whole}
+use Rattle.cook_restore.proofs.PlacesLaws.{found-is}
 
 -- ---- where contents stand
-
--- a content at its place is that of its file
-found-at : (said : FileRecord) (bytes : List ℕ) (o : Option FileAt) → content_found said bytes (place_or None o) ≡ content_at said bytes o
-unfolding content_found place_or content_at bytes_at
-found-at said bytes None = refl
-found-at said bytes (Some file) = refl
-
-pub found-is : (attached : List FileAt) (bytes : List ℕ) (said : FileRecord) → content_found said bytes (content_place attached said) ≡ content_meant attached bytes said
-unfolding content_place content_meant
-found-is attached bytes said = found-at said bytes (attached_as said.name (others_of attached))
 
 -- the place for the record of a number
 pub place-at : (attached : List FileAt) (records : List FileRecord) (places : List (Option Content)) (k : ℕ) (d : Option Content) → places ≡ content_places attached records → k < length records → get_or places k d ≡ content_place attached (get_or records k no_record)
@@ -78,30 +70,30 @@ place-ends len said attached ends = attached-ends len said.name (others_of attac
 next-named : (before : Restorer) → next_name before ≡ (record_at before before.number).name
 next-named before = get_or-map-any (λ (r : FileRecord). r.name) before.records.items before.number no_record
 
-sound-records : (before : Restorer) (bytes : List ℕ) → Fits before bytes → before.number ≤ length (files_meant (content_meant before.outline bytes) before.records.items).files
+sound-records : (before : Restorer) (bytes : List ℕ) → Fits before bytes → before.number ≤ length (files_meant (content_meant (outline_at before.outline bytes)) before.records.items).files
 sound-records before bytes fits = subst (λ m. before.number ≤ length m.files) (meaning-is bytes before.outline before.records.items fits.outline fits.records) fits.sound
 
 pub next-meant : {S : Type 0} (g : Ghosts S) (old : S) (before : Restorer) (bytes : List ℕ) → before.number < length before.records.items → Means g old (asked_at before before.number) (Ok bytes) → IsMeantWhereTold (g.files old) before bytes
 next-meant g old before bytes inside is known fits =
     let held : List ℕ = content (g.files old) before.pkg in
     let whole = meaning-is held before.outline before.records.items fits.outline fits.records in
-    let meant = meant-next (content_meant before.outline held) before.records.items before.number no_record bytes inside (sound-records before held fits) (is known fits.len) in
+    let meant = meant-next (content_meant (outline_at before.outline held)) before.records.items before.number no_record bytes inside (sound-records before held fits) (is known fits.len) in
     subst (λ m. IsMeant m before.number (next_name before) bytes) (sym whole)
-    (subst (λ n. IsMeant (files_meant (content_meant before.outline held) before.records.items) before.number n bytes) (sym (next-named before)) meant)
+    (subst (λ n. IsMeant (files_meant (content_meant (outline_at before.outline held)) before.records.items) before.number n bytes) (sym (next-named before)) meant)
 
 next-fault : {S : Type 0} (g : Ghosts S) (old : S) (before : Restorer) (why : FileWhy) → before.number < length before.records.items → Means g old (asked_at before before.number) (Err why)
     → IsEndWhereTold (g.files old) before (Some (faults.File (next_name before) why))
 next-fault g old before why inside is known fits =
     let held : List ℕ = content (g.files old) before.pkg in
     let whole = meaning-is held before.outline before.records.items fits.outline fits.records in
-    let end = meant-fault (content_meant before.outline held) before.records.items before.number no_record why inside (sound-records before held fits) (is known fits.len) in
+    let end = meant-fault (content_meant (outline_at before.outline held)) before.records.items before.number no_record why inside (sound-records before held fits) (is known fits.len) in
     subst (λ m. IsEnd m before.number (Some (faults.File (next_name before) why))) (sym whole)
-    (subst (λ n. IsEnd (files_meant (content_meant before.outline held) before.records.items) before.number (Some (faults.File n why))) (sym (next-named before)) end)
+    (subst (λ n. IsEnd (files_meant (content_meant (outline_at before.outline held)) before.records.items) before.number (Some (faults.File n why))) (sym (next-named before)) end)
 
 next-none : (told : Told) (before : Restorer) → length before.records.items ≤ before.number → IsEndWhereTold told before None
 next-none told before through known fits =
     let whole = meaning-is (content told before.pkg) before.outline before.records.items fits.outline fits.records in
-    subst (λ m. IsEnd m before.number None) (sym whole) (meant-whole (content_meant before.outline (content told before.pkg)) before.records.items before.number through (sound-records before (content told before.pkg) fits))
+    subst (λ m. IsEnd m before.number None) (sym whole) (meant-whole (content_meant (outline_at before.outline (content told before.pkg))) before.records.items before.number through (sound-records before (content told before.pkg) fits))
 
 -- ---- what a file that was given leaves
 
@@ -109,7 +101,7 @@ fits-next : (before restorer : Restorer) (bytes : List ℕ) → KeepsPackage bef
 fits-next before restorer bytes keeps fits sound = record {
   len = keeps.len ∙ fits.len;
   outline = fits.outline ∙ ap Ok (sym keeps.outline);
-  records = subst (λ a. AreSideRecords a bytes restorer.records.items) (sym keeps.outline) (subst (λ r. AreSideRecords before.outline bytes r) (sym keeps.records) fits.records);
+  records = subst (λ (p : Places). AreSideRecords (outline_at p bytes) restorer.records.items) (sym keeps.outline) (subst (λ r. AreSideRecords (outline_at before.outline bytes) r) (sym keeps.records) fits.records);
   sound = sound;
 }
 
@@ -222,9 +214,9 @@ at-any (x ∷ xs) zero d e inside = refl
 at-any (x ∷ xs) (suc k) d e inside = at-any xs k d e (omega arith)
 
 -- the file of a record, by the place of its content
-pub asked-there : (pkg : List ℕ) (said : FileRecord) (place : Option Content) (target : Option (List ℕ)) (restorer : Restorer) (number : ℕ) → pkg ≡ restorer.pkg → said ≡ record_at restorer number → place ≡ content_place restorer.outline (record_at restorer number) → target ≡ restorer.target
+pub asked-there : (pkg : List ℕ) (said : FileRecord) (place : Option Content) (target : Option (List ℕ)) (restorer : Restorer) (number : ℕ) → pkg ≡ restorer.pkg → said ≡ record_at restorer number → place ≡ content_place restorer.outline.files (record_at restorer number) → target ≡ restorer.target
     → asked_there pkg restorer.len said place target ≡ asked_at restorer number
 asked-there pkg said place target restorer number named is there aimed = λ i. record { pkg = named i; len = restorer.len; name = (is i).name; target = aimed i; meant = λ bytes. same bytes i }
   where
-    same : (bytes : List ℕ) → content_found said bytes place ≡ content_meant restorer.outline bytes (record_at restorer number)
+    same : (bytes : List ℕ) → content_found said bytes place ≡ content_meant (outline_at restorer.outline bytes) (record_at restorer number)
     same bytes = (λ i. content_found (is i) bytes (there i)) ∙ found-is restorer.outline bytes (record_at restorer number)

@@ -12,9 +12,11 @@ use Rattle.reversal.specs.SideReading.{side_read, FailsSide}
 use Rattle.reversal.specs.declared.error.SideError.{SideError}
 use Rattle.reversal.specs.declared.error.SideError.TheVariants as side
 use Rattle.reversal.specs.declared.record.FileRecord.{FileRecord}
-use Rattle.cook_restore.specs.Inside.{EndsBy, AllEndBy}
-use Rattle.cook_restore.specs.Meaning.{meaning_of, outline_meant, side_meant, records_meant, nothing_for, why_of_side, side_of, bytes_at}
-use Rattle.cook_restore.specs.Outline.{outline_of}
+use Rattle.cook_restore.specs.Contents.{side_of}
+use Rattle.cook_restore.specs.Inside.{EndsBy, KeepsWithin}
+use Rattle.cook_restore.specs.Meaning.{meaning_of, outline_meant, side_meant, records_meant, nothing_for, why_of_outline, why_of_side, side_seen}
+use Rattle.cook_restore.specs.Outline.{places_of}
+use Rattle.cook_restore.specs.Places.{Places, attached_at, outline_at, bytes_at}
 use Rattle.cook_restore.specs.Restoring.{AreSideRecords, IsNotOpened, IsMissing, IsRefused, IsBeforeFiles, NotRead, NotOutlined, NotRecorded}
 use Rattle.cook_restore.specs.Answered.{StopsFor, IsRefusal}
 use Rattle.cook_restore.specs.declared.error.PackageWhy.{PackageWhy}
@@ -23,8 +25,10 @@ use Rattle.cook_restore.specs.declared.error.RestoreError.{RestoreError}
 use Rattle.cook_restore.specs.declared.error.RestoreError.TheVariants as unopened
 use Rattle.cook_restore.specs.declared.matroska_read.error.OutlineError.{OutlineError}
 use Rattle.cook_restore.specs.declared.matroska_read.error.OutlineError.TheVariants as outlined
-use Rattle.cook_restore.specs.declared.matroska_read.error.OutlineFault.TheVariants as faults
+use Rattle.cook_restore.specs.declared.matroska_read.error.OutlineFault.{OutlineFault}
+use Rattle.cook_restore.specs.declared.matroska_read.error.OutlineFault.TheVariants as outline_fault
 use Rattle.cook_restore.specs.declared.matroska_read.files.FileAt.{FileAt}
+use Rattle.cook_restore.proofs.PlacesLaws.{outline-is, outline-fault, side-seen}
 
 -- ---- the length
 
@@ -46,14 +50,6 @@ missing-not_opened told pkg faults faults_now answer free is = absurd is
 
 -- ---- the outline
 
-pub all-end_by : (len : ℕ) (files : List FileAt) → All (EndsBy len) files → AllEndBy len files
-unfolding AllEndBy
-all-end_by len files all = all
-
-pub end_by-all : (len : ℕ) (files : List FileAt) → AllEndBy len files → All (EndsBy len) files
-unfolding AllEndBy
-end_by-all len files all = all
-
 -- the package ended early
 short-not_opened : (told : Told) (pkg : List ℕ) (len faults faults_now at : ℕ) (answer : RestoreError) → (IsTold told → ⊥) → at < len → NotRead pkg len (piece.Short at) answer → IsNotOpened told pkg faults faults_now answer
 short-not_opened told pkg len faults faults_now at (unopened.Changed name was now) untold early is = (is.0, untold, omega (arith, early, is.1, is.2))
@@ -64,16 +60,22 @@ short-not_opened told pkg len faults faults_now at answer untold early is = absu
 refused : (told : Told) (pkg : List ℕ) (why other : PackageWhy) → other ≡ why → IsBeforeFiles why → HasFile told pkg → (IsTold told → meaning_of (content told pkg) ≡ nothing_for why) → IsRefused told pkg other
 refused told pkg why other is before there meant = subst (IsRefused told pkg) (sym is) (record { before = before; there = there; meant = meant })
 
-shape-meant : (bytes : List ℕ) (place : ℕ) → outline_of bytes ≡ Err (faults.Shape place) → meaning_of bytes ≡ nothing_for (broken.Shape place)
+fault-meant : (bytes : List ℕ) (fault : OutlineFault) → places_of bytes ≡ Err fault → meaning_of bytes ≡ nothing_for (why_of_outline fault)
 unfolding meaning_of outline_meant
-shape-meant bytes place is = ap (outline_meant bytes) is
+fault-meant bytes fault is = ap outline_meant (outline-fault bytes fault is)
 
 -- the package has no outline
-pub outlined-not_opened : (told : Told) (pkg : List ℕ) (len faults faults_now : ℕ) (error : OutlineError) (answer : RestoreError) → HasFile told pkg → (IsTold told → IsRefusal (outline_of (content told pkg)) error)
+pub outlined-not_opened : (told : Told) (pkg : List ℕ) (len faults faults_now : ℕ) (error : OutlineError) (answer : RestoreError) → HasFile told pkg → (IsTold told → IsRefusal (places_of (content told pkg)) error)
     → StopsFor len faults faults_now error → NotOutlined pkg len error answer → IsNotOpened told pkg faults faults_now answer
 outlined-not_opened told pkg len faults faults_now (outlined.Shape place) (unopened.Package why) there fault stops is =
-    refused told pkg (broken.Shape place) why is tt there (λ known. shape-meant (content told pkg) place (fault known))
+    refused told pkg (broken.Shape place) why is tt there (λ known. fault-meant (content told pkg) (outline_fault.Shape place) (fault known))
 outlined-not_opened told pkg len faults faults_now (outlined.Shape place) answer there fault stops is = absurd is
+outlined-not_opened told pkg len faults faults_now (outlined.Encoded track) (unopened.Package why) there fault stops is =
+    refused told pkg (broken.Encoded track) why is tt there (λ known. fault-meant (content told pkg) (outline_fault.Encoded track) (fault known))
+outlined-not_opened told pkg len faults faults_now (outlined.Encoded track) answer there fault stops is = absurd is
+outlined-not_opened told pkg len faults faults_now (outlined.TrackUnknown track) (unopened.Package why) there fault stops is =
+    refused told pkg (broken.TrackUnknown track) why is tt there (λ known. fault-meant (content told pkg) (outline_fault.TrackUnknown track) (fault known))
+outlined-not_opened told pkg len faults faults_now (outlined.TrackUnknown track) answer there fault stops is = absurd is
 outlined-not_opened told pkg len faults faults_now (outlined.Short at) answer there fault stops is = short-not_opened told pkg len faults faults_now at answer fault stops is
 outlined-not_opened told pkg len faults faults_now outlined.Failed unopened.Failed there fault stops is = stops
 outlined-not_opened told pkg len faults faults_now outlined.Failed answer there fault stops is = absurd is
@@ -130,49 +132,56 @@ none-past n len is = by_cases (nat_lt n len) refl is
 pub side_of-none : (files : List FileAt) → position (λ file. file.side) files ≡ None → side_of files ≡ None
 side_of-none files is = side_of-past files (none-past (position_or_len (λ file. file.side) files) (length files) is)
 
-pub side_of-some : (files : List FileAt) (number : ℕ) (file : FileAt) → position (λ file. file.side) files ≡ Some number → file ≡ get_or files number file → side_of files ≡ Some file
-side_of-some files number file is at =
-    let found = some-within (position_or_len (λ file. file.side) files) (length files) number is in
-    side_of-at files file found.1 ∙ ap (λ k. Some (get_or files k file)) (sym found.0) ∙ ap Some (sym at)
+-- the file of the number that was found is the side data
+pub side_of-found : (places : Places) (files : List FileAt) (found : Option ℕ) (number : ℕ) (file : FileAt) → files ≡ places.files → found ≡ position (λ file. file.side) files → found ≡ Some number → file ≡ get_or files number file → side_of places.files ≡ Some file
+side_of-found places files found number file same is some at =
+    let inside = some-within (position_or_len (λ file. file.side) files) (length files) number (sym is ∙ some) in
+    subst (λ l. side_of l ≡ Some file) same (side_of-at files file inside.1 ∙ ap (λ k. Some (get_or files k file)) (sym inside.0) ∙ ap Some (sym at))
 
-pub side-ends : (len : ℕ) (files : List FileAt) (number : ℕ) (file : FileAt) → AllEndBy len files → position (λ file. file.side) files ≡ Some number → file ≡ get_or files number file → file.at + file.len ≤ len
-side-ends len files number file ends is at =
-    let found = some-within (position_or_len (λ file. file.side) files) (length files) number is in
-    subst (EndsBy len) (sym at) (All-get_or (EndsBy len) files number file (omega (arith, found.0, found.1)) (end_by-all len files ends))
+-- and it keeps within
+pub side-ends : (len : ℕ) (places : Places) (files : List FileAt) (found : Option ℕ) (number : ℕ) (file : FileAt) → KeepsWithin len places → files ≡ places.files → found ≡ position (λ file. file.side) files → found ≡ Some number → file ≡ get_or files number file → file.at + file.len ≤ len
+side-ends len places files found number file keeps same is some at =
+    let inside = some-within (position_or_len (λ file. file.side) files) (length files) number (sym is ∙ some) in
+    subst (EndsBy len) (sym at) (All-get_or (EndsBy len) files number file (omega (arith, inside.0, inside.1)) (subst (All (EndsBy len)) (sym same) keeps.files))
 
-no_side-meant : (bytes : List ℕ) (files : List FileAt) → outline_of bytes ≡ Ok files → side_of files ≡ None → meaning_of bytes ≡ nothing_for broken.NoSide
+-- what is side data at its place is seen as side data
+side-shown : (bytes : List ℕ) (places : Places) (o : Option FileAt) → side_of places.files ≡ o → side_seen (outline_at places bytes).files ≡ option_map (attached_at bytes) o
+side-shown bytes places o is = side-seen bytes places.files ∙ ap (option_map (attached_at bytes)) is
+
+no_side-meant : (bytes : List ℕ) (places : Places) → places_of bytes ≡ Ok places → side_of places.files ≡ None → meaning_of bytes ≡ nothing_for broken.NoSide
 unfolding meaning_of outline_meant side_meant
-no_side-meant bytes files is none = ap (outline_meant bytes) is ∙ ap (side_meant files bytes) none
+no_side-meant bytes places is none = ap outline_meant (outline-is bytes places is) ∙ ap (side_meant (outline_at places bytes)) (side-shown bytes places None none)
 
 -- no file is side data
-pub no_side-refused : (told : Told) (pkg : List ℕ) (files : List FileAt) (number : Option ℕ) → HasFile told pkg → (IsTold told → outline_of (content told pkg) ≡ Ok files) → number ≡ position (λ file. file.side) files → number ≡ None → IsRefused told pkg broken.NoSide
-no_side-refused told pkg files number there outlined is none = record {
+pub no_side-refused : (told : Told) (pkg : List ℕ) (places : Places) (files : List FileAt) (number : Option ℕ) → HasFile told pkg → (IsTold told → places_of (content told pkg) ≡ Ok places) → files ≡ places.files → number ≡ position (λ file. file.side) files → number ≡ None → IsRefused told pkg broken.NoSide
+no_side-refused told pkg places files number there outlined same is none = record {
   before = tt;
   there = there;
-  meant = λ known. no_side-meant (content told pkg) files (outlined known) (side_of-none files (sym is ∙ none));
+  meant = λ known. no_side-meant (content told pkg) places (outlined known) (subst (λ l. side_of l ≡ None) same (side_of-none files (sym is ∙ none)));
 }
 
 -- the side data was read
-pub side-records : (told : Told) (pkg : List ℕ) (files : List FileAt) (side : FileAt) (held : List ℕ) (records : List FileRecord) → side_of files ≡ Some side → (IsTold told → held ≡ bytes_at side (content told pkg)) → side_read held ≡ Ok records
-    → IsTold told → AreSideRecords files (content told pkg) records
-side-records told pkg files side held records is_side bytes read known = record {
-  side = side;
-  is_side = is_side;
+pub side-records : (told : Told) (pkg : List ℕ) (places : Places) (side : FileAt) (held : List ℕ) (records : List FileRecord) → side_of places.files ≡ Some side → (IsTold told → held ≡ bytes_at side (content told pkg)) → side_read held ≡ Ok records
+    → IsTold told → AreSideRecords (outline_at places (content told pkg)) records
+side-records told pkg places side held records is_side bytes read known = record {
+  side = attached_at (content told pkg) side;
+  is_side = side-shown (content told pkg) places (Some side) is_side;
   read = ap side_read (sym (bytes known)) ∙ read;
 }
 
-side-meant : (bytes : List ℕ) (files : List FileAt) (side : FileAt) (error : SideError) → outline_of bytes ≡ Ok files → side_of files ≡ Some side → side_read (bytes_at side bytes) ≡ Err error → meaning_of bytes ≡ nothing_for (why_of_side error)
+side-meant : (bytes : List ℕ) (places : Places) (side : FileAt) (error : SideError) → places_of bytes ≡ Ok places → side_of places.files ≡ Some side → side_read (bytes_at side bytes) ≡ Err error → meaning_of bytes ≡ nothing_for (why_of_side error)
 unfolding meaning_of outline_meant side_meant records_meant
-side-meant bytes files side error is is_side read = ap (outline_meant bytes) is ∙ ap (side_meant files bytes) is_side ∙ ap (records_meant files bytes) read
+side-meant bytes places side error is is_side read =
+    ap outline_meant (outline-is bytes places is) ∙ ap (side_meant (outline_at places bytes)) (side-shown bytes places (Some side) is_side) ∙ ap (records_meant (outline_at places bytes)) read
 
 -- or it is faulty
-pub recorded-not_opened : (told : Told) (pkg : List ℕ) (files : List FileAt) (side : FileAt) (held : List ℕ) (faults faults_now : ℕ) (error : SideError) (answer : RestoreError) → HasFile told pkg → (IsTold told → outline_of (content told pkg) ≡ Ok files)
-    → side_of files ≡ Some side → (IsTold told → held ≡ bytes_at side (content told pkg)) → FailsSide error (side_read held) → NotRecorded error answer → IsNotOpened told pkg faults faults_now answer
-recorded-not_opened told pkg files found held faults faults_now (side.SideBad place) (unopened.Package why) there outlined is_side bytes fails is =
-    refused told pkg (broken.SideBad place) why is tt there (λ known. side-meant (content told pkg) files found (side.SideBad place) (outlined known) is_side (ap side_read (sym (bytes known)) ∙ fails))
-recorded-not_opened told pkg files found held faults faults_now (side.SideBad place) answer there outlined is_side bytes fails is = absurd is
-recorded-not_opened told pkg files found held faults faults_now (side.SideNames name) (unopened.Package why) there outlined is_side bytes fails is =
-    refused told pkg (broken.SideNames name) why is tt there (λ known. side-meant (content told pkg) files found (side.SideNames name) (outlined known) is_side (ap side_read (sym (bytes known)) ∙ fails))
-recorded-not_opened told pkg files found held faults faults_now (side.SideNames name) answer there outlined is_side bytes fails is = absurd is
-recorded-not_opened told pkg files found held faults faults_now side.NoMemory unopened.NoMemory there outlined is_side bytes fails is = tt
-recorded-not_opened told pkg files found held faults faults_now side.NoMemory answer there outlined is_side bytes fails is = absurd is
+pub recorded-not_opened : (told : Told) (pkg : List ℕ) (places : Places) (side : FileAt) (held : List ℕ) (faults faults_now : ℕ) (error : SideError) (answer : RestoreError) → HasFile told pkg → (IsTold told → places_of (content told pkg) ≡ Ok places)
+    → side_of places.files ≡ Some side → (IsTold told → held ≡ bytes_at side (content told pkg)) → FailsSide error (side_read held) → NotRecorded error answer → IsNotOpened told pkg faults faults_now answer
+recorded-not_opened told pkg places found held faults faults_now (side.SideBad place) (unopened.Package why) there outlined is_side bytes fails is =
+    refused told pkg (broken.SideBad place) why is tt there (λ known. side-meant (content told pkg) places found (side.SideBad place) (outlined known) is_side (ap side_read (sym (bytes known)) ∙ fails))
+recorded-not_opened told pkg places found held faults faults_now (side.SideBad place) answer there outlined is_side bytes fails is = absurd is
+recorded-not_opened told pkg places found held faults faults_now (side.SideNames name) (unopened.Package why) there outlined is_side bytes fails is =
+    refused told pkg (broken.SideNames name) why is tt there (λ known. side-meant (content told pkg) places found (side.SideNames name) (outlined known) is_side (ap side_read (sym (bytes known)) ∙ fails))
+recorded-not_opened told pkg places found held faults faults_now (side.SideNames name) answer there outlined is_side bytes fails is = absurd is
+recorded-not_opened told pkg places found held faults faults_now side.NoMemory unopened.NoMemory there outlined is_side bytes fails is = tt
+recorded-not_opened told pkg places found held faults faults_now side.NoMemory answer there outlined is_side bytes fails is = absurd is

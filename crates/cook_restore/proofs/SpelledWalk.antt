@@ -13,15 +13,18 @@ use Rattle.ebml_core.proofs.SpelledHeads.{written_head}
 use Rattle.ebml_core.proofs.Prefixes.{head_stays}
 use Rattle.cook_restore.specs.declared.matroska_read.parts.Element.{Element}
 use Rattle.cook_restore.specs.declared.matroska_read.files.FileAt.{FileAt}
+use Rattle.cook_restore.specs.declared.matroska_read.parts.SegmentSeen.{SegmentSeen}
 use Rattle.cook_restore.specs.Identifiers.{ebml_header, segment, attachments, attached_file}
-use Rattle.cook_restore.specs.Outline.{visit_header, header_read, header_of, file_read, visit_attachments, attachments_visited, visit_segment, segment_read, outline_of}
+use Rattle.cook_restore.specs.Outline.{visit_header, header_read, header_of, file_read, visit_attachments, attachments_visited, visit_segment, segment_read, places_seen, places_of, outline_of}
 use Rattle.shelf_reader.specs.Readings.{gives, looks, thence_of, thence}
 use Rattle.shelf_reader.specs.Walk.{walked}
 use Rattle.shelf_reader.proofs.WalkLaws.{GoesOn, onward}
 use Rattle.shelf_reader.proofs.WalkLaws as walks
-use Rattle.cook_restore.specs.Outline.{Visits, attachments_seen, no_doc_type, nothing_seen, outline_in}
+use Rattle.cook_restore.specs.Outline.{Visits, attachments_seen, no_doc_type, nothing_seen, places_in}
 use Rattle.cook_restore.specs.Walk.{content_of, head_in, sized, element_of, element_in, segment_sized, segment_of, segment_in, ebml, walked_children}
 use Rattle.cook_restore.specs.WalkGoesOn.{element_goes_on}
+use Rattle.cook_restore.specs.Places.{outline_at}
+use Rattle.cook_restore.proofs.PlacesLaws.{outline-is}
 
 pub same_id : (a b : ℕ) → a ≡ b → (a == b) ≡ true
 same_id a b e = grind (arith, nat_tests)
@@ -143,10 +146,14 @@ unfolding visit_segment attachments_visited thence thence_of gives
 visit_segment-attachments bytes place len files read = rw read refl
 
 -- an outline is the header, the Segment and what is read of it
-pub outline_of-read : (bytes : List ℕ) (place : ℕ) (segment : Element) (files : List FileAt) → header_of (length bytes) bytes ≡ Ok place → segment_in (length bytes) place bytes ≡ Ok segment → segment.end ≡ length bytes → walked_children visit_segment segment nothing_seen bytes ≡ Ok (attachments_seen files)
-    → outline_of bytes ≡ Ok files
-unfolding outline_of outline_in segment_read looks thence thence_of gives
-outline_of-read bytes place segment files header at ends read = rw (header, at, read, same_id segment.end (length bytes) ends) refl
+places_of-read : (bytes : List ℕ) (place : ℕ) (segment : Element) (seen : SegmentSeen) → header_of (length bytes) bytes ≡ Ok place → segment_in (length bytes) place bytes ≡ Ok segment → segment.end ≡ length bytes → walked_children visit_segment segment nothing_seen bytes ≡ Ok seen
+    → places_of bytes ≡ Ok (places_seen seen)
+unfolding places_of places_in segment_read looks thence thence_of gives
+places_of-read bytes place segment seen header at ends read = rw (header, at, read, same_id segment.end (length bytes) ends) refl
+
+pub outline_of-read : (bytes : List ℕ) (place : ℕ) (segment : Element) (seen : SegmentSeen) → header_of (length bytes) bytes ≡ Ok place → segment_in (length bytes) place bytes ≡ Ok segment → segment.end ≡ length bytes → walked_children visit_segment segment nothing_seen bytes ≡ Ok seen
+    → outline_of bytes ≡ Ok (outline_at (places_seen seen) bytes)
+outline_of-read bytes place segment seen header at ends read = outline-is bytes (places_seen seen) (places_of-read bytes place segment seen header at ends read)
 
 pub header_of-read : (bytes : List ℕ) (first : Element) → element_in (length bytes) 0 bytes ≡ Ok first → first.id ≡ ebml_header → walked_children visit_header first no_doc_type bytes ≡ Ok (record { doc_type = true }) → header_of (length bytes) bytes ≡ Ok first.end
 unfolding header_of header_read thence thence_of gives

@@ -1,15 +1,35 @@
 -- Where the content of each record's file stands in the package, as a restorer keeps it.
-use Rattle.std.specs.Prelude.{◌≡◌, ℕ, ◌+◌, ◌≤◌, List, take, drop, map, Option, Some, None, Result, Err}
+use Rattle.std.specs.Prelude.{◌≡◌, ℕ, ◌+◌, ◌≤◌, if◌then◌else◌, List, [], ◌∷◌, take, drop, map, Option, Some, None, Result, Err}
 use Rattle.std.specs.BTreeMap.{BTreeMap, get_by}
 use Rattle.std.specs.Cmp.Lexicographic.{slice_cmp}
 use Rattle.std.specs.Ordering.{nat_cmp}
 use denote.Ref.{Bor}
+use Rattle.cook_bits.specs.Names.{is_same_name}
 use Rattle.reversal.specs.declared.record.FileRecord.{FileRecord}
 use Rattle.cook_restore.specs.declared.matroska_read.files.FileAt.{FileAt}
 use Rattle.cook_restore.specs.declared.contents.Content.{Content}
 use Rattle.cook_restore.specs.declared.error.FileWhy.{FileWhy}
 use Rattle.cook_restore.specs.declared.error.FileWhy.TheVariants as file
-use Rattle.cook_restore.specs.Meaning.{attached_as, others_of, checked}
+use Rattle.cook_restore.specs.Meaning.{checked}
+
+-- ---- what is attached, by places
+
+-- the side data: the first file of its media type
+unfoldable pub side_of : List FileAt → Option FileAt
+side_of [] = None
+side_of (file ∷ files) = if file.side then Some file else side_of files
+
+-- all files but the side data
+unfoldable pub others_of : List FileAt → List FileAt
+others_of [] = []
+others_of (file ∷ files) = if file.side then files else file ∷ others_of files
+
+-- the first file of a name
+unfoldable pub attached_as : List ℕ → List FileAt → Option FileAt
+attached_as name [] = None
+attached_as name (file ∷ files) = if is_same_name file.name name then Some file else attached_as name files
+
+-- ---- the places of contents
 
 abbrev pub place_of : FileAt → Content
 place_of file = record { at = file.at; len = file.len }

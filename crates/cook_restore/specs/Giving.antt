@@ -15,6 +15,7 @@ use Rattle.shelf_core.specs.declared.shelf.CreateError.TheVariants as create
 use Rattle.reversal.specs.declared.record.FileRecord.{FileRecord}
 use Rattle.cook_restore.specs.Contents.{content_found}
 use Rattle.cook_restore.specs.Meaning.{content_meant}
+use Rattle.cook_restore.specs.Places.{outline_at}
 use Rattle.cook_restore.specs.Restoring.{IsFreeIn, HasFileIn, with_given, record_at}
 use Rattle.cook_restore.specs.declared.contents.Content.{Content}
 use Rattle.cook_restore.specs.declared.giving.Package.{Package}
@@ -70,7 +71,7 @@ asked_of pkg task = asked_there pkg.name.now pkg.len task.said.now task.content 
 -- the file of a restorer's record of a number
 abbrev pub asked_at : Restorer → ℕ → Asked
 asked_at restorer number =
-    record { pkg = restorer.pkg; len = restorer.len; name = (record_at restorer number).name; target = restorer.target; meant = λ bytes. content_meant restorer.outline bytes (record_at restorer number) }
+    record { pkg = restorer.pkg; len = restorer.len; name = (record_at restorer number).name; target = restorer.target; meant = λ bytes. content_meant (outline_at restorer.outline bytes) (record_at restorer number) }
 
 -- the file means this, where the shelf tells the package, and it is as long as was asked
 abbrev pub Means : {S : Type 0} → Ghosts S → S → Asked → Result (List ℕ) FileWhy → Type 0

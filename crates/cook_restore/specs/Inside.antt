@@ -5,6 +5,8 @@ use Rattle.cook_restore.specs.declared.matroska_read.parts.Span.{Span}
 use Rattle.cook_restore.specs.declared.matroska_read.parts.Fields.{Fields}
 use Rattle.cook_restore.specs.declared.matroska_read.parts.SegmentSeen.{SegmentSeen}
 use Rattle.cook_restore.specs.declared.matroska_read.files.FileAt.{FileAt}
+use Rattle.cook_restore.specs.declared.matroska_read.tracks.BlockAt.{BlockAt}
+use Rattle.cook_restore.specs.Places.{Places}
 
 -- an element has a head, and ends where its parent does or before
 pub record IsInside (place end : ℕ) (element : Element) : Type 0 where
@@ -21,9 +23,18 @@ pub record AreSpans (end : ℕ) (fields : Fields) : Type 0 where
   pub media_type : IfSome fields.media_type (IsSpan end)
   pub content : IfSome fields.content (IsSpan end)
 
+-- the body of a block ends at a place or before
+abbrev pub BlockEndsBy : ℕ → BlockAt → Type 0
+BlockEndsBy end block = block.at + block.len ≤ end
+
 -- the content of a file ends at a place or before
 abbrev pub EndsBy : ℕ → FileAt → Type 0
 EndsBy end file = file.at + file.len ≤ end
+
+-- each block and each file of an outline does
+pub record KeepsWithin (end : ℕ) (places : Places) : Type 0 where
+  pub blocks : All (BlockEndsBy end) places.blocks
+  pub files : All (EndsBy end) places.files
 
 -- each of the files does
 unfoldable pub AllEndBy : ℕ → List FileAt → Type 0

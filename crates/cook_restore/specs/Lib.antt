@@ -6,6 +6,7 @@ pub mod Identifiers
 pub mod Inside
 pub mod Meaning
 pub mod Outline
+pub mod Places
 pub mod Restoring
 pub mod Walk
 pub mod WalkGoesOn

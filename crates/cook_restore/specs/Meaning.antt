@@ -1,6 +1,6 @@
 -- What any list of bytes means as a package: the files that it gives back, up to the first that is faulty, and its end. A
 -- package whose outline or side data is faulty gives no file.
-use Rattle.std.specs.Prelude.{ℕ, ◌==◌, if◌then◌else◌, List, [], ◌∷◌, length, take, drop, Option, Some, None, Result, Ok, Err}
+use Rattle.std.specs.Prelude.{ℕ, ◌==◌, if◌then◌else◌, List, [], ◌∷◌, length, Option, Some, None, Result, Ok, Err}
 use Rattle.md5.specs.Md5.{md5}
 use Rattle.cook_bits.specs.Names.{File, is_same_name}
 use Rattle.reversal.specs.SideReading.{side_read}
@@ -8,9 +8,9 @@ use Rattle.reversal.specs.declared.record.FileRecord.{FileRecord}
 use Rattle.reversal.specs.declared.error.SideError.{SideError}
 use Rattle.reversal.specs.declared.error.SideError.TheVariants as side
 use Rattle.cook_restore.specs.Outline.{outline_of}
+use Rattle.cook_restore.specs.Places.{Attached, Outline}
 use Rattle.cook_restore.specs.declared.matroska_read.error.OutlineFault.{OutlineFault}
 use Rattle.cook_restore.specs.declared.matroska_read.error.OutlineFault.TheVariants as outlined
-use Rattle.cook_restore.specs.declared.matroska_read.files.FileAt.{FileAt}
 use Rattle.cook_restore.specs.declared.error.FileWhy.{FileWhy}
 use Rattle.cook_restore.specs.declared.error.FileWhy.TheVariants as file
 use Rattle.cook_restore.specs.declared.error.PackageWhy.{PackageWhy}
@@ -28,23 +28,19 @@ nothing_for why = record { files = []; end = Some why }
 -- ---- what is attached
 
 -- the side data: the first file of its media type
-unfoldable pub side_of : List FileAt → Option FileAt
-side_of [] = None
-side_of (file ∷ files) = if file.side then Some file else side_of files
+unfoldable pub side_seen : List Attached → Option Attached
+side_seen [] = None
+side_seen (file ∷ files) = if file.side then Some file else side_seen files
 
 -- all files but the side data
-unfoldable pub others_of : List FileAt → List FileAt
-others_of [] = []
-others_of (file ∷ files) = if file.side then files else file ∷ others_of files
+unfoldable pub others_seen : List Attached → List Attached
+others_seen [] = []
+others_seen (file ∷ files) = if file.side then files else file ∷ others_seen files
 
 -- the first file of a name
-unfoldable pub attached_as : List ℕ → List FileAt → Option FileAt
-attached_as name [] = None
-attached_as name (file ∷ files) = if is_same_name file.name name then Some file else attached_as name files
-
--- the content of an attached file
-unfoldable pub bytes_at : FileAt → List ℕ → List ℕ
-bytes_at file bytes = take file.len (drop file.at bytes)
+unfoldable pub seen_as : List ℕ → List Attached → Option Attached
+seen_as name [] = None
+seen_as name (file ∷ files) = if is_same_name file.name name then Some file else seen_as name files
 
 -- ---- a file, by its record
 
@@ -52,13 +48,13 @@ bytes_at file bytes = take file.len (drop file.at bytes)
 unfoldable pub checked : FileRecord → List ℕ → Result (List ℕ) FileWhy
 checked said content = if length content == said.length then (if is_same_name (md5 content) said.md5 then Ok content else Err file.Sum) else Err file.Length
 
-unfoldable pub content_at : FileRecord → List ℕ → Option FileAt → Result (List ℕ) FileWhy
-content_at said bytes None = Err file.Missing
-content_at said bytes (Some attached) = checked said (bytes_at attached bytes)
+unfoldable pub content_of_file : FileRecord → Option Attached → Result (List ℕ) FileWhy
+content_of_file said None = Err file.Missing
+content_of_file said (Some attached) = checked said attached.content
 
 -- the content of the file of a record, or why it is faulty
-unfoldable pub content_meant : List FileAt → List ℕ → FileRecord → Result (List ℕ) FileWhy
-content_meant attached bytes said = content_at said bytes (attached_as said.name (others_of attached))
+unfoldable pub content_meant : Outline → FileRecord → Result (List ℕ) FileWhy
+content_meant outline said = content_of_file said (seen_as said.name (others_seen outline.files))
 
 -- ---- all files
 
@@ -78,18 +74,24 @@ why_of_side (side.SideBad place) = faults.SideBad place
 why_of_side (side.SideNames name) = faults.SideNames name
 why_of_side side.NoMemory = faults.NoSide
 
-unfoldable pub records_meant : List FileAt → List ℕ → Result (List FileRecord) SideError → Meaning
-records_meant attached bytes (Ok records) = files_meant (content_meant attached bytes) records
-records_meant attached bytes (Err error) = nothing_for (why_of_side error)
+-- the fault of an outline
+abbrev pub why_of_outline : OutlineFault → PackageWhy
+why_of_outline (outlined.Shape place) = faults.Shape place
+why_of_outline (outlined.Encoded track) = faults.Encoded track
+why_of_outline (outlined.TrackUnknown track) = faults.TrackUnknown track
 
-unfoldable pub side_meant : List FileAt → List ℕ → Option FileAt → Meaning
-side_meant attached bytes None = nothing_for faults.NoSide
-side_meant attached bytes (Some side) = records_meant attached bytes (side_read (bytes_at side bytes))
+unfoldable pub records_meant : Outline → Result (List FileRecord) SideError → Meaning
+records_meant outline (Ok records) = files_meant (content_meant outline) records
+records_meant outline (Err error) = nothing_for (why_of_side error)
 
-unfoldable pub outline_meant : List ℕ → Result (List FileAt) OutlineFault → Meaning
-outline_meant bytes (Ok attached) = side_meant attached bytes (side_of attached)
-outline_meant bytes (Err (outlined.Shape place)) = nothing_for (faults.Shape place)
+unfoldable pub side_meant : Outline → Option Attached → Meaning
+side_meant outline None = nothing_for faults.NoSide
+side_meant outline (Some side) = records_meant outline (side_read side.content)
+
+unfoldable pub outline_meant : Result Outline OutlineFault → Meaning
+outline_meant (Ok outline) = side_meant outline (side_seen outline.files)
+outline_meant (Err fault) = nothing_for (why_of_outline fault)
 
 -- the meaning of a package
 unfoldable pub meaning_of : List ℕ → Meaning
-meaning_of bytes = outline_meant bytes (outline_of bytes)
+meaning_of bytes = outline_meant (outline_of bytes)

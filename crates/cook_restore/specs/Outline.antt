@@ -1,13 +1,14 @@
--- The outline of any list of bytes, read as a Matroska file of attachments (RFC 8794 and RFC 9559): the files that are
--- attached, or the first fault. A parent's children are walked in order of place, and what a parent holds or lacks is
--- tested after its children. An identifier has its meaning in its own parent alone; elsewhere, and where it isn't named
+-- The outline of any list of bytes, read as a Matroska file of attachments (RFC 8794 and RFC 9559): its tracks, its blocks
+-- and the files that are attached, or the first fault. No track and no block is read yet. A parent's children are walked in
+-- order of place, and what a parent holds or lacks is tested after its children. An identifier has its meaning in its own parent alone; elsewhere, and where it isn't named
 -- here, its element is passed over by its size.
 use Rattle.std.specs.Prelude.{ℕ, ◌-◌, nat_le, ◌==◌, ◌&&◌, Bool, true, false, if◌then◌else◌, List, [], ◌∷◌, ◌++◌, length, codes, Option, Some, None, unwrap_or}
 use Rattle.byteorder.specs.Endian.{big_number}
-use Rattle.shelf_reader.specs.Readings.{gives, fails, looks, thence}
+use Rattle.shelf_reader.specs.Readings.{gives, fails, looks, answers, thence}
 use Rattle.shelf_reader.specs.Seen.{between, is_text_between}
 use Rattle.shelf_reader.specs.Walk.{Visit}
 use Rattle.cook_restore.specs.Identifiers.{ebml_header, ebml_read_version, ebml_max_id_length, ebml_max_size_length, doc_type, doc_type_read_version, cluster, tracks, attachments, attached_file, file_name, file_media_type, file_data}
+use Rattle.cook_restore.specs.Places.{Places, Outline, outline_at}
 use Rattle.cook_restore.specs.Walk.{Read, content_of, element_in, segment_in, walked_children}
 use Rattle.cook_restore.specs.declared.matroska_read.error.OutlineFault.{OutlineFault}
 use Rattle.cook_restore.specs.declared.matroska_read.error.OutlineFault.TheVariants.{Shape}
@@ -140,15 +141,23 @@ visit_segment seen child =
 abbrev pub nothing_seen : SegmentSeen
 nothing_seen = record { files = None }
 
--- the files of a Segment of a file of so many bytes, behind which nothing follows
-unfoldable pub segment_read : ℕ → Element → Read (List FileAt)
+-- what is known when all was seen
+abbrev pub places_seen : SegmentSeen → Places
+places_seen seen = record { tracks = []; blocks = []; files = unwrap_or seen.files [] }
+
+-- what a Segment of a file of so many bytes holds, behind which nothing follows
+unfoldable pub segment_read : ℕ → Element → Read Places
 segment_read len element =
-    thence (walked_children visit_segment element nothing_seen) (λ seen. if element.end == len then gives (unwrap_or seen.files []) else fails (Shape element.end))
+    thence (walked_children visit_segment element nothing_seen) (λ seen. if element.end == len then gives (places_seen seen) else fails (Shape element.end))
 
 -- An EBML header and then a Segment (RFC 9559, section 4.5), in a file of so many bytes.
-unfoldable pub outline_in : ℕ → Read (List FileAt)
-outline_in len = thence (header_of len) (λ place. thence (segment_in len place) (segment_read len))
+unfoldable pub places_in : ℕ → Read Places
+places_in len = thence (header_of len) (λ place. thence (segment_in len place) (segment_read len))
 
--- The files that are attached, in order of place, or the first fault.
-unfoldable pub outline_of : Read (List FileAt)
-outline_of = looks length outline_in
+-- The outline by places: tracks, blocks and attached files, each in order of place, or the first fault.
+unfoldable pub places_of : Read Places
+places_of = looks length places_in
+
+-- The outline by values: what stands at the places.
+unfoldable pub outline_of : Read Outline
+outline_of = thence places_of (λ places. answers (outline_at places))

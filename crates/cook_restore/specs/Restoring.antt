@@ -17,8 +17,9 @@ use Rattle.reversal.specs.declared.error.SideError.TheVariants as side
 use Rattle.reversal.specs.SideData.{names_of}
 use Rattle.reversal.specs.declared.record.FileRecord.{FileRecord}
 use Rattle.reversal.specs.declared.record.Kind.TheVariants.{Other}
-use Rattle.cook_restore.specs.Meaning.{Meaning, meaning_of, side_of, bytes_at, nothing_for}
-use Rattle.cook_restore.specs.Outline.{outline_of}
+use Rattle.cook_restore.specs.Meaning.{Meaning, meaning_of, side_seen, nothing_for}
+use Rattle.cook_restore.specs.Outline.{places_of}
+use Rattle.cook_restore.specs.Places.{Places, Attached, Outline, bytes_at, outline_at}
 use Rattle.cook_restore.specs.declared.matroska_read.files.FileAt.{FileAt}
 use Rattle.cook_restore.specs.declared.error.FileWhy.{FileWhy}
 use Rattle.cook_restore.specs.declared.error.PackageWhy.{PackageWhy}
@@ -34,18 +35,18 @@ use Rattle.cook_restore.specs.declared.restorer.FileSum.{FileSum}
 
 -- ---- an open package
 
--- the records of the side data of a package whose files are attached so
-pub record AreSideRecords (attached : List FileAt) (bytes : List ℕ) (records : List FileRecord) : Type 0 where
-  pub side : FileAt
-  pub is_side : side_of attached ≡ Some side
-  pub read : side_read (bytes_at side bytes) ≡ Ok records
+-- the records of the side data of a package with this outline
+pub record AreSideRecords (outline : Outline) (records : List FileRecord) : Type 0 where
+  pub side : Attached
+  pub is_side : side_seen outline.files ≡ Some side
+  pub read : side_read side.content ≡ Ok records
 
 -- A restorer fits the bytes of a package: its length, its outline and its records are theirs, and none of the files before
 -- its next is faulty.
 pub record Fits (restorer : Restorer) (bytes : List ℕ) : Type 0 where
   pub len : restorer.len ≡ length bytes
-  pub outline : outline_of bytes ≡ Ok restorer.outline
-  pub records : AreSideRecords restorer.outline bytes restorer.records.items
+  pub outline : places_of bytes ≡ Ok restorer.outline
+  pub records : AreSideRecords (outline_at restorer.outline bytes) restorer.records.items
   pub sound : restorer.number ≤ length (meaning_of bytes).files
 
 -- a restorer before its first file
@@ -89,17 +90,17 @@ OpensOn g shelf pkg target = IsOpened (g.files shelf) pkg target
 abbrev pub IsLenOf : {S : Type 0} → Ghosts S → S → List ℕ → ℕ → Type 0
 IsLenOf g shelf name len = Tells g shelf → len ≡ length (bytes_of g shelf name)
 
--- the outline of a package, where the shelf tells it
-abbrev pub IsOutlineOf : {S : Type 0} → Ghosts S → S → List ℕ → List FileAt → Type 0
-IsOutlineOf g shelf pkg files = Tells g shelf → outline_of (bytes_of g shelf pkg) ≡ Ok files
+-- the outline of a package by places, where the shelf tells it
+abbrev pub IsOutlineOf : {S : Type 0} → Ghosts S → S → List ℕ → Places → Type 0
+IsOutlineOf g shelf pkg places = Tells g shelf → places_of (bytes_of g shelf pkg) ≡ Ok places
 
 -- the bytes of an attached file
 abbrev pub AreBytesOf : {S : Type 0} → Ghosts S → S → List ℕ → FileAt → List ℕ → Type 0
 AreBytesOf g shelf pkg file bytes = Tells g shelf → bytes ≡ bytes_at file (bytes_of g shelf pkg)
 
 -- the records of its side data
-abbrev pub AreRecordsOf : {S : Type 0} → Ghosts S → S → List ℕ → List FileAt → List FileRecord → Type 0
-AreRecordsOf g shelf pkg files records = Tells g shelf → AreSideRecords files (bytes_of g shelf pkg) records
+abbrev pub AreRecordsOf : {S : Type 0} → Ghosts S → S → List ℕ → Places → List FileRecord → Type 0
+AreRecordsOf g shelf pkg places records = Tells g shelf → AreSideRecords (outline_at places (bytes_of g shelf pkg)) records
 
 -- a shelf's error as that of an opening
 abbrev pub restore_error : ShelfError → RestoreError
@@ -123,6 +124,8 @@ NotRead pkg len error answer = ⊥
 -- or where it has no outline
 abbrev pub NotOutlined : List ℕ → ℕ → OutlineError → RestoreError → Type 0
 NotOutlined pkg len (outlined.Shape place) (unopened.Package why) = why ≡ faults.Shape place
+NotOutlined pkg len (outlined.Encoded track) (unopened.Package why) = why ≡ faults.Encoded track
+NotOutlined pkg len (outlined.TrackUnknown track) (unopened.Package why) = why ≡ faults.TrackUnknown track
 NotOutlined pkg len (outlined.Short at) answer = NotRead pkg len (piece.Short at) answer
 NotOutlined pkg len outlined.Failed unopened.Failed = Unit {0}
 NotOutlined pkg len outlined.NoMemory unopened.NoMemory = Unit {0}

@@ -1,8 +1,7 @@
 // Where the contents of the files stand in a package, by the names that the side data says.
 ghost use Rattle.std.specs.Prelude.{◌≡◌, None, IfOk, OnOk};
 ghost use Rattle.std.specs.List.{position};
-ghost use Rattle.cook_restore.specs.Contents.{HoldsOver, content_places, held_as};
-ghost use Rattle.cook_restore.specs.Meaning.{others_of};
+ghost use Rattle.cook_restore.specs.Contents.{HoldsOver, content_places, held_as, others_of};
 
 use crate::FileAt;
 use cook_bits::NoMemory;

@@ -23,6 +23,12 @@ pub enum PackageWhy {
     /// The element whose first byte stands at `place` breaks a rule of the format, and none before it does.
     #[error("bad structure at byte {place}")]
     Shape { place: u64 },
+    /// The content of the track of this number is encoded.
+    #[error("encoded track {track}")]
+    Encoded { track: u64 },
+    /// The track of this number has a codec that isn't read.
+    #[error("unknown track {track}")]
+    TrackUnknown { track: u64 },
     /// No attached file is side data.
     #[error("no side data")]
     NoSide,

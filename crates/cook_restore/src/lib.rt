@@ -13,6 +13,6 @@ mod restorer;
 mod stop;
 
 pub use error::{FileError, FileWhy, PackageWhy, RestoreError};
-pub use matroska_read::{FileAt, Outline, OutlineError, outline};
+pub use matroska_read::{BlockAt, Codec, FileAt, Outline, OutlineError, Track, outline};
 pub use opening::open_package;
 pub use restorer::{FileSum, Restorer};

@@ -9,7 +9,9 @@ mod header;
 mod parts;
 mod segment;
 mod top;
+mod tracks;
 
 pub use error::{OutlineError, OutlineFault};
 pub use files::{FileAt, Outline};
 pub use top::outline;
+pub use tracks::{BlockAt, Codec, Track};

@@ -3,7 +3,7 @@ ghost use Rattle.std.specs.Prelude.{◌≡◌, ◌+◌, ◌<◌, ◌≤◌, ◌^
 ghost use Rattle.std.specs.Option.{option_map};
 ghost use Rattle.shelf_core.specs.Reads.{OnlyReads, Has};
 ghost use Rattle.reversal.specs.SideData.{AreNames, names_of};
-ghost use Rattle.cook_restore.specs.Inside.{AllEndBy};
+ghost use Rattle.cook_restore.specs.Inside.{KeepsWithin};
 ghost use Rattle.cook_restore.specs.Restoring.{AreBytesOf, AreRecordsOf, IsOutlineOf, StopsOpening, OpensOn, IsLenOf, NotOutlined, NotRead, NotRecorded, IsMissing};
 
 use crate::contents::{contents_of, side_number};
@@ -51,6 +51,10 @@ fn not_outlined(alloc: Global, pkg: &str, len: u64, error: OutlineError) -> Rest
 {
     match error {
         OutlineError::Shape { place } => RestoreError::Package(PackageWhy::Shape { place }),
+        OutlineError::Encoded { track } => RestoreError::Package(PackageWhy::Encoded { track }),
+        OutlineError::TrackUnknown { track } => {
+            RestoreError::Package(PackageWhy::TrackUnknown { track })
+        }
         OutlineError::Failed => RestoreError::Failed,
         OutlineError::NoMemory => RestoreError::NoMemory,
         OutlineError::Short { now } => not_read(alloc, pkg, len, PieceError::Short { now }),
@@ -91,7 +95,7 @@ fn package_outline<S: Shelf>(
     requires there { Has S.Shelf shelf.old pkg.now }
     requires len { IsLenOf S.Shelf shelf.old pkg.now len }
     ensures outline { IfOk result (IsOutlineOf S.Shelf shelf.old pkg.now) }
-    ensures within { IfOk result (AllEndBy len) }
+    ensures within { IfOk result (KeepsWithin len) }
     ensures stopped { IfErr result (StopsOpening S.Shelf shelf.old shelf.new pkg.now) }
     ensures kept { OnlyReads S.Shelf shelf.old shelf.new }
 {
@@ -124,24 +128,25 @@ fn attached_bytes<S: Shelf>(
     }
 }
 
-// The records of the side data of a package of `len` bytes, to which these files are attached.
+// The records of the side data of a package of `len` bytes.
 fn package_records<S: Shelf>(
     alloc: Global,
     shelf: &mut S,
     pkg: &str,
     len: u64,
-    files: &[FileAt],
+    outline: &Outline,
 ) -> Result<Vec<FileRecord>, RestoreError>
     requires there { Has S.Shelf shelf.old pkg.now }
     requires len { IsLenOf S.Shelf shelf.old pkg.now len }
-    requires outline { IsOutlineOf S.Shelf shelf.old pkg.now files.now }
-    requires within { AllEndBy len files.now }
-    ensures records { IfOk result (λ records. AreRecordsOf S.Shelf shelf.old pkg.now files.now records.items) }
+    requires outline { IsOutlineOf S.Shelf shelf.old pkg.now outline.now }
+    requires within { KeepsWithin len outline.now }
+    ensures records { IfOk result (λ records. AreRecordsOf S.Shelf shelf.old pkg.now outline.now records.items) }
     ensures few { IfOk result (λ records. length records.items < 2 ^ 32) }
     ensures named { IfOk result (λ records. AreNames (names_of records.items)) }
     ensures stopped { IfErr result (StopsOpening S.Shelf shelf.old shelf.new pkg.now) }
     ensures kept { OnlyReads S.Shelf shelf.old shelf.new }
 {
+    let files = outline.files();
     let Some(number) = side_number(files) else {
         return Err(RestoreError::Package(PackageWhy::NoSide));
     };
@@ -199,7 +204,7 @@ pub fn open_package<S: Shelf>(
     let _ = workers;
     let len = package_len(alloc, shelf, pkg)?;
     let outline = package_outline(alloc, shelf, pkg, len)?;
-    let records = package_records(alloc, shelf, pkg, len, outline.files())?;
+    let records = package_records(alloc, shelf, pkg, len, &outline)?;
     let contents = contents_of(alloc, outline.files(), &records)?;
     let names = tree_of(alloc, &records)?;
     let room = room_for(records.as_slice());

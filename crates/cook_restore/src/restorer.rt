@@ -35,8 +35,8 @@ pub struct Restorer {
     pub(crate) names: NameTree,
     pub(crate) buffer: Vec<u8>,
     ghost few: { length records.items < 2 ^ 32 },
-    ghost within: { All (EndsBy len) outline } by { Prim.hlevel props },
-    ghost placed: { contents.items ≡ content_places outline records.items },
+    ghost within: { All (EndsBy len) outline.files } by { Prim.hlevel props },
+    ghost placed: { contents.items ≡ content_places outline.files records.items },
     ghost held: { names.names ≡ names_of records.items },
     ghost room: { 0 < length buffer.items },
 }

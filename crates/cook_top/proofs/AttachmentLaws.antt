@@ -7,7 +7,7 @@ use Rattle.cook_pack.proofs.PieceLaws.{length-attached_fields}
 use Rattle.cook_restore.specs.declared.matroska_read.parts.Element.{Element}
 use Rattle.cook_restore.specs.declared.matroska_read.parts.Fields.{Fields}
 use Rattle.cook_restore.specs.declared.matroska_read.files.FileAt.{FileAt}
-use Rattle.cook_restore.specs.Meaning.{bytes_at}
+use Rattle.cook_restore.specs.Places.{bytes_at, attached_at}
 use Rattle.shelf_reader.specs.Readings.{gives, looks, thence_of, thence}
 use Rattle.shelf_reader.specs.Seen.{between, is_same_text, is_text_between}
 use Rattle.shelf_reader.specs.Walk.{walked}
@@ -15,7 +15,6 @@ use Rattle.cook_restore.specs.declared.matroska_read.parts.Span.{Span}
 use Rattle.cook_restore.specs.Walk.{ebml}
 use Rattle.cook_restore.specs.Outline.{side_media_type, span_of, no_fields, with_field, visit_field, file_at, file_of, file_read}
 use Rattle.cook_restore.proofs.SpelledWalk.{walked-end, Stands, IsSpelled, spelled, behind, stands-first, content-stands, content_of-spelled, walked-spelled}
-use Rattle.cook_top.specs.RoundTrip.{IsAttached}
 
 -- ---- lengths
 
@@ -108,7 +107,10 @@ walked_fields bytes end start name media number content rest are =
 pub record IsRead (bytes : List ℕ) (element : Element) (name : List ℕ) (side : Bool) (content : List ℕ) : Type 0 where
   pub file : FileAt
   pub read : file_read element bytes ≡ Ok file
-  pub is : IsAttached bytes name side content file
+  pub is : attached_at bytes file ≡ record { name = name; side = side; content = content }
+
+attached_by : (bytes name : List ℕ) (side : Bool) (content : List ℕ) (file : FileAt) → file.name ≡ name → file.side ≡ side → bytes_at file bytes ≡ content → attached_at bytes file ≡ record { name = name; side = side; content = content }
+attached_by bytes name side content file named typed holds = λ i. record { name = named i; side = typed i; content = holds i }
 
 -- what is read of a name, a media type and a content
 abbrev file_seen : Span → Span → Span → List ℕ → FileAt
@@ -127,16 +129,12 @@ file_by_fields bytes place len name side number content rest are =
     let end = start + len in
     let second = start + length (element 0x466E name) in
     let fourth = second + length (element 0x4660 (media_type side)) + length (element 0x46AE number) in
-    let content_at = fourth + length (head_of 0x465C (length content)) in
     record {
       file = file_seen (span_of (spelled start 0x466E (length name))) (span_of (spelled second 0x4660 (length (media_type side)))) (span_of (spelled fourth 0x465C (length content))) bytes;
       read = rw (walked_fields bytes end start name (media_type side) number content rest are) refl;
-      is = record {
-        named = content_of-spelled bytes end start 0x466E name _ are.first;
-        typed = ap (λ (l : List ℕ). is_same_text l side_media_type) (content_of-spelled bytes end second 0x4660 (media_type side) _ are.second) ∙ media_tells side;
-        long = omega arith;
-        holds = content_of-spelled bytes end fourth 0x465C content rest are.fourth;
-      };
+      is = attached_by bytes name side content _ (content_of-spelled bytes end start 0x466E name _ are.first)
+          (ap (λ (l : List ℕ). is_same_text l side_media_type) (content_of-spelled bytes end second 0x4660 (media_type side) _ are.second) ∙ media_tells side)
+          (content_of-spelled bytes end fourth 0x465C content rest are.fourth);
     }
 
 pub file_read-attached : (bytes : List ℕ) (end place : ℕ) (name : List ℕ) (side : Bool) (uid : ℕ) (content rest : List ℕ) → length name ≤ 2000 → length content ≤ 2 ^ 55

@@ -1,7 +1,7 @@
 -- The attachments of a package, as a reader sees them.
 use Rattle.std.proofs.Common.{◌≡◌, ℕ, ◌+◌, ◌*◌, ◌^◌, ◌≤◌, false, true, List, [], ◌∷◌, ◌++◌, length, map, All, codes, Ok, refl, sym, ap, ◌∙◌, arith, append_assoc, append-nil, length-append}
 use Rattle.std.specs.List.{sum_by, AllByRecursion}
-use Rattle.std.proofs.lemmas.List.{length-map}
+use Rattle.std.proofs.lemmas.List.{length-map, map-append}
 use Rattle.std.proofs.lemmas.List.Elements.{All-map, All-from_recursion, recursion_from_All}
 use Rattle.std.proofs.lemmas.List.Sums.{sum_by-cons, sum_by-le}
 use Rattle.md5.proofs.StandardFacts.{length-md5}
@@ -18,7 +18,8 @@ use Rattle.shelf_reader.specs.Walk.{walked}
 use Rattle.cook_restore.specs.Walk.{ebml, walked_children}
 use Rattle.cook_restore.specs.Outline.{visit_attachments}
 use Rattle.cook_restore.proofs.SpelledWalk.{walked-end, Stands, IsSpelled, spelled, stands-first, stands-second, content-stands, walked-file}
-use Rattle.cook_top.specs.RoundTrip.{file_names, IsAttached, AreAttached}
+use Rattle.cook_restore.specs.Places.{attached_at}
+use Rattle.cook_top.specs.RoundTrip.{file_names, shown_file, shown_side}
 use Rattle.cook_top.proofs.ProfileLaws.{Keeps}
 use Rattle.cook_top.proofs.AttachmentLaws.{attached_content, length-attached_content-le, length-attached_file-le, file_read-attached}
 
@@ -76,7 +77,7 @@ length-side_data-le directory relative =
 record Seen (bytes : List ℕ) (end place behind : ℕ) (before : List FileAt) (directory : List File) : Type 0 where
   files : List FileAt
   walk : walked ebml visit_attachments end before place bytes ≡ walked ebml visit_attachments end (before ++ files) behind bytes
-  are : AreAttached bytes directory files
+  shown : map (attached_at bytes) files ≡ map shown_file directory
 
 -- a file, and the others behind it
 file_then : (bytes : List ℕ) (end place next behind last : ℕ) (before : List FileAt) (file : FileAt) (others : List FileAt) → walked ebml visit_attachments end before place bytes ≡ walked ebml visit_attachments end (before ++ file ∷ []) next bytes
@@ -87,10 +88,10 @@ file_then bytes end place next behind last before file others first later ends =
 
 files_seen : (bytes : List ℕ) (end place uid : ℕ) (before : List FileAt) (directory : List File) (rest : List ℕ) → AllByRecursion IsSmall directory → Stands bytes place (attached_from uid directory) rest → place + length (attached_from uid directory) ≤ end
     → Seen bytes end place (place + length (attached_from uid directory)) before directory
-unfolding attached_from attached_file AreAttached
+unfolding attached_from attached_file
 files_seen bytes end place uid before [] rest small stands within =
     let none : place ≡ place + 0 = omega arith in
-    record { files = []; walk = (λ i. walked ebml visit_attachments end (sym (append-nil before) i) (none i) bytes); are = tt }
+    record { files = []; walk = (λ i. walked ebml visit_attachments end (sym (append-nil before) i) (none i) bytes); shown = refl }
 files_seen bytes end place uid before (file ∷ files) rest small stands within =
     let here = attached_content file.0 false uid file.1 in
     let piece = element 0x61A7 here in
@@ -105,7 +106,7 @@ files_seen bytes end place uid before (file ∷ files) rest small stands within 
     record {
       files = read.file ∷ others.files;
       walk = file_then bytes end place (place + length piece) _ _ before read.file others.files (walked-file bytes end place here (later ++ rest) before read.file is read.read) others.walk (omega arith);
-      are = (read.is, others.are);
+      shown = λ i. read.is i ∷ others.shown i;
     }
 
 -- ---- all attachments
@@ -113,10 +114,8 @@ files_seen bytes end place uid before (file ∷ files) rest small stands within 
 -- what is seen of the content of the Attachments
 pub record AreSeen (bytes : List ℕ) (element : Element) (directory : List File) : Type 0 where
   pub files : List FileAt
-  pub side : FileAt
-  pub walk : walked_children visit_attachments element [] bytes ≡ Ok (files ++ side ∷ [])
-  pub are_files : AreAttached bytes directory files
-  pub is_side : IsAttached bytes (codes "cook.rev") true (side_data_of (map other_record directory)) side
+  pub walk : walked_children visit_attachments element [] bytes ≡ Ok files
+  pub shown : map (attached_at bytes) files ≡ map shown_file directory ++ shown_side (map other_record directory) ∷ []
 
 side_content : List File → List ℕ
 side_content directory = attached_content (codes "cook.rev") true (length directory + 1) (side_data_of (map other_record directory))
@@ -162,7 +161,7 @@ length-attachments-le directory keeps =
 record SideSeen (bytes : List ℕ) (end place : ℕ) (before : List FileAt) (directory : List File) : Type 0 where
   side : FileAt
   walk : walked ebml visit_attachments end before place bytes ≡ Ok (before ++ side ∷ [])
-  is : IsAttached bytes (codes "cook.rev") true (side_data_of (map other_record directory)) side
+  shown : attached_at bytes side ≡ shown_side (map other_record directory)
 
 side_seen : (bytes : List ℕ) (end place : ℕ) (before : List FileAt) (directory : List File) (rest : List ℕ) → Keeps directory → Stands bytes place (element 0x61A7 (side_content directory)) rest → end ≡ place + length (element 0x61A7 (side_content directory))
     → SideSeen bytes end place before directory
@@ -177,7 +176,7 @@ side_seen bytes end place before directory rest keeps stands is_end =
       side = read.file;
       walk = walked-file bytes end place (side_content directory) rest before read.file is read.read
           ∙ walked-end visit_attachments end (before ++ read.file ∷ []) (place + length (element 0x61A7 (side_content directory))) bytes (omega arith);
-      is = read.is;
+      shown = read.is;
     }
 
 -- the files, and then the side data
@@ -194,11 +193,9 @@ content_seen bytes end start directory rest parent starts ends keeps stands is_e
     let files = files_seen bytes end start 1 [] directory (last ++ rest) (small_files directory keeps) (stands-first bytes start first last rest stands) (omega arith) in
     let side = side_seen bytes end (start + length first) files.files directory rest keeps (stands-second bytes start first last rest stands) (omega arith) in
     record {
-      files = files.files;
-      side = side.side;
+      files = files.files ++ side.side ∷ [];
       walk = side_then bytes end start (start + length first) parent files.files (files.files ++ side.side ∷ []) starts ends files.walk side.walk;
-      are_files = files.are;
-      is_side = side.is;
+      shown = map-append (attached_at bytes) files.files (side.side ∷ []) ∙ (λ i. files.shown i ++ side.shown i ∷ []);
     }
 
 pub attachments_are_seen : (bytes : List ℕ) (end place : ℕ) (directory : List File) (rest : List ℕ) → Keeps directory → IsSpelled bytes end place 0x1941A469 (attachments_of directory) rest

@@ -1,10 +1,10 @@
 -- A package, as a reader sees it.
-use Rattle.std.proofs.Common.{◌≡◌, ℕ, ◌+◌, ◌≤◌, List, [], ◌∷◌, ◌++◌, length, Ok, refl, sym, ap, ◌∙◌, subst, arith, append_assoc, append-nil, length-append}
+use Rattle.std.proofs.Common.{◌≡◌, ℕ, ◌+◌, ◌≤◌, List, [], ◌∷◌, ◌++◌, length, map, Ok, refl, sym, ap, ◌∙◌, subst, arith, append_assoc, append-nil, length-append}
 use Rattle.cook_bits.specs.Names.{File}
 use Rattle.ebml_core.specs.Element.{element, uint_bytes, byte_count, least_from}
 use Rattle.cook_pack.specs.Offence.{IsInProfile}
 use Rattle.cook_pack.specs.Pieces.{ebml_content, info_content, unknown_size, header_bytes}
-use Rattle.cook_pack.specs.Package.{attachments_bytes, attachments_of, package_of}
+use Rattle.cook_pack.specs.Package.{attachments_bytes, attachments_of, others_of, other_record, package_of}
 use Rattle.cook_pack.proofs.PlannedLaws.{others-all}
 use Rattle.cook_pack.proofs.PieceLaws.{short_info}
 use Rattle.cook_restore.specs.declared.matroska_read.parts.Element.{Element}
@@ -12,9 +12,10 @@ use Rattle.shelf_reader.specs.Readings.{gives}
 use Rattle.shelf_reader.specs.Walk.{walked}
 use Rattle.cook_restore.specs.declared.matroska_read.parts.SegmentSeen.{SegmentSeen}
 use Rattle.cook_restore.specs.Walk.{ebml}
-use Rattle.cook_restore.specs.Outline.{visit_segment, nothing_seen, attachments_seen}
+use Rattle.cook_restore.specs.Outline.{visit_segment, nothing_seen, attachments_seen, outline_of}
 use Rattle.cook_restore.proofs.SpelledWalk.{walked-end, Stands, IsSpelled, spelled, behind, segment_in-unknown, walked-spelled, visit_segment-attachments, outline_of-read}
-use Rattle.cook_top.specs.RoundTrip.{AreAttached, ShowsDirectory}
+use Rattle.cook_restore.specs.Places.{Attached}
+use Rattle.cook_top.specs.RoundTrip.{shown_file, shown_side, outline_shown}
 use Rattle.cook_top.proofs.ProfileLaws.{Keeps, keeps}
 use Rattle.cook_top.proofs.AttachmentsLaws.{AreSeen, attachments_are_seen, length-attachments-le}
 use Rattle.cook_top.proofs.HeaderRead.{header_seen, segment_head}
@@ -80,35 +81,37 @@ has_parts bytes directory rate is =
 
 -- the Segment is walked over: Info, and then the Attachments, behind which the file ends
 segment_walked : (bytes : List ℕ) (directory : List File) (parts : HasParts bytes directory) → Keeps directory → (are : AreSeen bytes (spelled parts.attachments 0x1941A469 (length (attachments_of directory))) directory)
-    → walked ebml visit_segment (length bytes) nothing_seen parts.info bytes ≡ Ok (attachments_seen (are.files ++ are.side ∷ []))
+    → walked ebml visit_segment (length bytes) nothing_seen parts.info bytes ≡ Ok (attachments_seen are.files)
 segment_walked bytes directory parts keeps are =
     let info : IsSpelled bytes (length bytes) parts.info 0x1549A966 info_content (element 0x1941A469 (attachments_of directory)) =
     record { known = refl; small = short_info; stands = parts.info_stands; within = omega (arith, parts.attachments_is, parts.end_is) } in
     let attached : IsSpelled bytes (length bytes) parts.attachments 0x1941A469 (attachments_of directory) [] =
     record { known = refl; small = omega (arith, length-attachments-le directory keeps); stands = parts.attachments_stand; within = omega (arith, parts.end_is) } in
-    let found : SegmentSeen = attachments_seen (are.files ++ are.side ∷ []) in
+    let found : SegmentSeen = attachments_seen are.files in
     walked-spelled visit_segment bytes (length bytes) parts.info 0x1549A966 info_content _ nothing_seen nothing_seen info (info_passed bytes parts.info (length info_content))
     ∙ ap (λ (n : ℕ). walked ebml visit_segment (length bytes) nothing_seen n bytes) (sym parts.attachments_is)
     ∙ walked-spelled visit_segment bytes (length bytes) parts.attachments 0x1941A469 (attachments_of directory) [] nothing_seen found attached (visit_segment-attachments bytes parts.attachments (length (attachments_of directory)) _ are.walk)
     ∙ walked-end visit_segment (length bytes) found (parts.attachments + length (element 0x1941A469 (attachments_of directory))) bytes (omega (arith, parts.end_is))
 
-outline_seen : (bytes : List ℕ) (directory : List File) (parts : HasParts bytes directory) → Keeps directory → AreSeen bytes (spelled parts.attachments 0x1941A469 (length (attachments_of directory))) directory → ShowsDirectory directory bytes
-outline_seen bytes directory parts keeps are =
+-- what is shown is the directory's, whose files all are attached
+shown_alone : (directory : List File) (rate : ℕ) (files : List Attached) → files ≡ map shown_file directory ++ shown_side (map other_record directory) ∷ [] → record { tracks = []; blocks = []; files = files } ≡ outline_shown directory rate
+unfolding outline_shown
+shown_alone directory rate files is =
+    let all : files ≡ map shown_file (others_of directory) ++ shown_side (map other_record directory) ∷ [] = subst (λ l. files ≡ map shown_file l ++ shown_side (map other_record directory) ∷ []) (sym (others-all directory)) is in
+    λ i. record { tracks = []; blocks = []; files = all i }
+
+outline_seen : (bytes : List ℕ) (directory : List File) (rate : ℕ) (parts : HasParts bytes directory) → Keeps directory → AreSeen bytes (spelled parts.attachments 0x1941A469 (length (attachments_of directory))) directory → outline_of bytes ≡ Ok (outline_shown directory rate)
+outline_seen bytes directory rate parts keeps are =
     let element_at : Element = record { place = parts.segment; id = 0x18538067; start = parts.segment + 12; end = length bytes } in
     let walk = ap (λ (n : ℕ). walked ebml visit_segment (length bytes) nothing_seen n bytes) (sym parts.info_is) ∙ segment_walked bytes directory parts keeps are in
-    record {
-      files = are.files;
-      side = are.side;
-      outline = outline_of-read bytes parts.segment element_at (are.files ++ are.side ∷ []) (header_seen bytes _ parts.begins ∙ ap Ok (sym parts.header))
-          (segment_in-unknown bytes (length bytes) parts.segment 12 segment_piece _ segment_head parts.segment_stands (omega (arith, parts.info_is, parts.attachments_is, parts.end_is, length-segment_piece))) refl walk;
-      are_files = subst (λ l. AreAttached bytes l are.files) (sym (others-all directory)) are.are_files;
-      is_side = are.is_side;
-    }
+    outline_of-read bytes parts.segment element_at (attachments_seen are.files) (header_seen bytes _ parts.begins ∙ ap Ok (sym parts.header))
+    (segment_in-unknown bytes (length bytes) parts.segment 12 segment_piece _ segment_head parts.segment_stands (omega (arith, parts.info_is, parts.attachments_is, parts.end_is, length-segment_piece))) refl walk
+    ∙ ap Ok (shown_alone directory rate _ are.shown)
 
-pub package_shows : (directory : List File) (rate : ℕ) → IsInProfile directory → 1 ≤ rate → rate ≤ 240 → ShowsDirectory directory (package_of directory rate)
+pub package_shows : (directory : List File) (rate : ℕ) → IsInProfile directory → 1 ≤ rate → rate ≤ 240 → outline_of (package_of directory rate) ≡ Ok (outline_shown directory rate)
 package_shows directory rate profile low high =
     let kept = keeps directory profile in
     let parts = has_parts (package_of directory rate) directory rate refl in
     let attached : IsSpelled (package_of directory rate) (length (package_of directory rate)) parts.attachments 0x1941A469 (attachments_of directory) [] =
     record { known = refl; small = omega (arith, length-attachments-le directory kept); stands = parts.attachments_stand; within = omega (arith, parts.end_is) } in
-    outline_seen (package_of directory rate) directory parts kept (attachments_are_seen (package_of directory rate) (length (package_of directory rate)) parts.attachments directory [] kept attached)
+    outline_seen (package_of directory rate) directory rate parts kept (attachments_are_seen (package_of directory rate) (length (package_of directory rate)) parts.attachments directory [] kept attached)

@@ -1,5 +1,5 @@
 -- What the package of a directory gives back.
-use Rattle.std.proofs.Common.{◌≡◌, ℕ, ◌≤◌, if◌then◌else◌, Bool, true, false, List, [], ◌∷◌, ◌++◌, length, map, Some, None, Result, Ok, IsUtf8, refl, sym, ap, ◌∙◌, subst, arith}
+use Rattle.std.proofs.Common.{◌≡◌, ℕ, ◌≤◌, true, false, List, [], ◌∷◌, ◌++◌, length, map, Some, None, Result, Ok, IsUtf8, refl, sym, ap, ◌∙◌, subst, arith}
 use Rattle.std.specs.Ordering.{nat_cmp, is_eq}
 use Rattle.std.specs.declared.cmp.Ordering.TheVariants.{Less}
 use Rattle.std.specs.Cmp.{tied_itself}
@@ -19,33 +19,27 @@ use Rattle.reversal.proofs.Round.{read_again}
 use Rattle.cook_pack.specs.Offence.{IsInProfile}
 use Rattle.cook_pack.specs.Package.{package_of, other_record}
 use Rattle.cook_pack.proofs.PlannedLaws.{others-all}
-use Rattle.cook_restore.specs.declared.matroska_read.files.FileAt.{FileAt}
+use Rattle.cook_restore.specs.Places.{Attached, Outline}
 use Rattle.cook_restore.specs.declared.error.FileWhy.{FileWhy}
-use Rattle.cook_restore.specs.Meaning.{side_of, others_of, attached_as, bytes_at, checked, content_at, content_meant, with_file_meant, files_meant, records_meant, side_meant, outline_meant, meaning_of}
+use Rattle.cook_restore.specs.Meaning.{side_seen, others_seen, seen_as, checked, content_of_file, content_meant, with_file_meant, files_meant, records_meant, side_meant, outline_meant, meaning_of}
 use Rattle.cook_restore.specs.Outline.{outline_of}
 use Rattle.cook_restore.proofs.SpelledWalk.{same_id}
-use Rattle.cook_top.specs.RoundTrip.{file_names, IsDirectory, IsAttached, AreAttached, ShowsDirectory}
+use Rattle.cook_top.specs.RoundTrip.{file_names, IsDirectory, shown_file, shown_side, outline_shown}
 use Rattle.cook_top.proofs.ProfileLaws.{Keeps, keeps}
 use Rattle.cook_top.proofs.AttachmentsLaws.{IsSmall, small_files, names-recorded}
 use Rattle.cook_top.proofs.PackageLaws.{package_shows}
 
 -- ---- the side data is apart from the files
 
-side_of-last : (bytes : List ℕ) (directory : List File) (files : List FileAt) (side : FileAt) → AreAttached bytes directory files → side.side ≡ true → side_of (files ++ side ∷ []) ≡ Some side
-unfolding side_of AreAttached
-side_of-last bytes [] [] side are is = rw is refl
-side_of-last bytes [] (attached ∷ files) side are is = absurd are
-side_of-last bytes (file ∷ directory) [] side are is = absurd are
-side_of-last bytes (file ∷ directory) (attached ∷ files) side are is = rw are.0.typed (side_of-last bytes directory files side are.1 is)
+side_last : (directory : List File) (records : List FileRecord) → side_seen (map shown_file directory ++ shown_side records ∷ []) ≡ Some (shown_side records)
+unfolding side_seen
+side_last [] records = refl
+side_last (file ∷ directory) records = side_last directory records
 
-others_of-last : (bytes : List ℕ) (directory : List File) (files : List FileAt) (side : FileAt) → AreAttached bytes directory files → side.side ≡ true → others_of (files ++ side ∷ []) ≡ files
-unfolding others_of AreAttached
-others_of-last bytes [] [] side are is = rw is refl
-others_of-last bytes [] (attached ∷ files) side are is = absurd are
-others_of-last bytes (file ∷ directory) [] side are is = absurd are
-others_of-last bytes (file ∷ directory) (attached ∷ files) side are is =
-    ap (λ (t : Bool). if t then files ++ side ∷ [] else attached ∷ others_of (files ++ side ∷ [])) are.0.typed
-    ∙ ap (λ (others : List FileAt). attached ∷ others) (others_of-last bytes directory files side are.1 is)
+others_last : (directory : List File) (records : List FileRecord) → others_seen (map shown_file directory ++ shown_side records ∷ []) ≡ map shown_file directory
+unfolding others_seen
+others_last [] records = refl
+others_last (file ∷ directory) records = ap (λ (l : List Attached). shown_file file ∷ l) (others_last directory records)
 
 -- ---- each file is found by its name
 
@@ -55,31 +49,26 @@ same_name name = texts_ties name name ∙ ap is_eq (tied_itself nat_list_cmp_tot
 other_name : (name other : List ℕ) → slice_cmp nat_cmp name other ≡ Less → is_same_name name other ≡ false
 other_name name other before = texts_ties name other ∙ ap is_eq before
 
--- what is attached under the name of a file has its content
-record IsFound (bytes : List ℕ) (files : List FileAt) (file : File) : Type 0 where
-  attached : FileAt
-  there : attached_as file.0 files ≡ Some attached
-  holds : bytes_at attached bytes ≡ file.1
+-- what is attached under the name of a file is the file
+IsFound : List Attached → File → Type 0
+IsFound files file = seen_as file.0 files ≡ Some (shown_file file)
 
-found_here : (bytes : List ℕ) (attached : FileAt) (files : List FileAt) (file : File) → IsAttached bytes file.0 false file.1 attached → IsFound bytes (attached ∷ files) file
-unfolding attached_as
-found_here bytes attached files file is = record { attached = attached; there = rw (is.named, same_name file.0) refl; holds = is.holds }
+found_here : (file : File) (files : List Attached) → IsFound (shown_file file ∷ files) file
+unfolding IsFound seen_as
+found_here file files = rw (same_name file.0) refl
 
-found_behind : (bytes : List ℕ) (attached : FileAt) (files : List FileAt) (file : File) → is_same_name attached.name file.0 ≡ false → IsFound bytes files file → IsFound bytes (attached ∷ files) file
-unfolding attached_as
-found_behind bytes attached files file other found = record { attached = found.attached; there = rw other found.there; holds = found.holds }
+found_behind : (first file : File) (files : List Attached) → is_same_name first.0 file.0 ≡ false → IsFound files file → IsFound (shown_file first ∷ files) file
+unfolding IsFound seen_as
+found_behind first file files apart found = rw apart found
 
-all_behind : (bytes name : List ℕ) (attached : FileAt) (files : List FileAt) (directory : List File) → attached.name ≡ name → AllByRecursion (λ other. slice_cmp nat_cmp name other ≡ Less) (file_names directory) → AllByRecursion (IsFound bytes files) directory → AllByRecursion (IsFound bytes (attached ∷ files)) directory
-all_behind bytes name attached files [] is before found = tt
-all_behind bytes name attached files (file ∷ directory) is before found =
-    (found_behind bytes attached files file (ap (λ (n : List ℕ). is_same_name n file.0) is ∙ other_name name file.0 before.0) found.0, all_behind bytes name attached files directory is before.1 found.1)
+all_behind : (first : File) (files : List Attached) (directory : List File) → AllByRecursion (λ other. slice_cmp nat_cmp first.0 other ≡ Less) (file_names directory) → AllByRecursion (IsFound files) directory → AllByRecursion (IsFound (shown_file first ∷ files)) directory
+all_behind first files [] before found = tt
+all_behind first files (file ∷ directory) before found = (found_behind first file files (other_name first.0 file.0 before.0) found.0, all_behind first files directory before.1 found.1)
 
-all_found : (bytes : List ℕ) (directory : List File) (files : List FileAt) → AreAttached bytes directory files → IsStrictlySortedBy (slice_cmp nat_cmp) (file_names directory) → AllByRecursion (IsFound bytes files) directory
-unfolding AreAttached IsStrictlySortedBy
-all_found bytes [] files are sorted = tt
-all_found bytes (file ∷ directory) [] are sorted = absurd are
-all_found bytes (file ∷ directory) (attached ∷ files) are sorted =
-    (found_here bytes attached files file are.0, all_behind bytes file.0 attached files directory are.0.named sorted.0 (all_found bytes directory files are.1 sorted.1))
+all_found : (directory : List File) → IsStrictlySortedBy (slice_cmp nat_cmp) (file_names directory) → AllByRecursion (IsFound (map shown_file directory)) directory
+unfolding IsStrictlySortedBy
+all_found [] sorted = tt
+all_found (file ∷ directory) sorted = (found_here file (map shown_file directory), all_behind file (map shown_file directory) directory sorted.0 (all_found directory sorted.1))
 
 -- ---- each file is given back
 
@@ -87,17 +76,16 @@ content_checked : (file : File) → checked (other_record file) file.1 ≡ Ok fi
 unfolding checked
 content_checked file = rw (same_id (length file.1) (length file.1) refl, same_name (md5 file.1)) refl
 
-content_given : (bytes : List ℕ) (attached files : List FileAt) (file : File) → others_of attached ≡ files → IsFound bytes files file → content_meant attached bytes (other_record file) ≡ Ok file.1
-unfolding content_meant content_at
-content_given bytes attached files file others found = rw (others, found.there, found.holds) (content_checked file)
-
 Gives : (FileRecord → Result (List ℕ) FileWhy) → File → Type 0
 Gives find file = find (other_record file) ≡ Ok file.1
 
-all_given : (bytes : List ℕ) (attached files : List FileAt) (directory : List File) → others_of attached ≡ files → AllByRecursion (IsFound bytes files) directory → AllByRecursion (Gives (content_meant attached bytes)) directory
-unfolding Gives
-all_given bytes attached files [] others found = tt
-all_given bytes attached files (file ∷ directory) others found = (content_given bytes attached files file others found.0, all_given bytes attached files directory others found.1)
+content_given : (outline : Outline) (files : List Attached) (file : File) → others_seen outline.files ≡ files → IsFound files file → Gives (content_meant outline) file
+unfolding content_meant content_of_file IsFound Gives
+content_given outline files file others found = rw (others, found) (content_checked file)
+
+all_given : (outline : Outline) (files : List Attached) (directory : List File) → others_seen outline.files ≡ files → AllByRecursion (IsFound files) directory → AllByRecursion (Gives (content_meant outline)) directory
+all_given outline files [] others found = tt
+all_given outline files (file ∷ directory) others found = (content_given outline files file others found.0, all_given outline files directory others found.1)
 
 files_given : (find : FileRecord → Result (List ℕ) FileWhy) (directory : List File) → AllByRecursion (Gives find) directory → files_meant find (map other_record directory) ≡ record { files = directory; end = None }
 unfolding files_meant with_file_meant Gives
@@ -132,18 +120,24 @@ side_read_again directory is keeps =
 
 -- ---- the whole
 
-meaning_by : (bytes : List ℕ) (attached : List FileAt) (side : FileAt) (records : List FileRecord) → outline_of bytes ≡ Ok attached → side_of attached ≡ Some side → side_read (bytes_at side bytes) ≡ Ok records → meaning_of bytes ≡ files_meant (content_meant attached bytes) records
+meaning_by : (bytes : List ℕ) (outline : Outline) (side : Attached) (records : List FileRecord) → outline_of bytes ≡ Ok outline → side_seen outline.files ≡ Some side → side_read side.content ≡ Ok records → meaning_of bytes ≡ files_meant (content_meant outline) records
 unfolding meaning_of outline_meant side_meant records_meant
-meaning_by bytes attached side records outline of_side read = rw (outline, of_side, read) refl
+meaning_by bytes outline side records outlined of_side read = rw (outlined, of_side, read) refl
 
-shown_means : (bytes : List ℕ) (directory : List File) → IsDirectory directory → Keeps directory → ShowsDirectory directory bytes → meaning_of bytes ≡ record { files = directory; end = None }
-shown_means bytes directory is keeps shows =
-    let attached = shows.files ++ shows.side ∷ [] in
-    let are : AreAttached bytes directory shows.files = subst (λ l. AreAttached bytes l shows.files) (others-all directory) shows.are_files in
-    let others = others_of-last bytes directory shows.files shows.side are shows.is_side.typed in
+-- what a package shows whose files all are attached
+shown_files : (directory : List File) (rate : ℕ) → (outline_shown directory rate).files ≡ map shown_file directory ++ shown_side (map other_record directory) ∷ []
+unfolding outline_shown
+shown_files directory rate = ap (λ (l : List File). map shown_file l ++ shown_side (map other_record directory) ∷ []) (others-all directory)
+
+shown_means : (bytes : List ℕ) (directory : List File) (rate : ℕ) → IsDirectory directory → Keeps directory → outline_of bytes ≡ Ok (outline_shown directory rate) → meaning_of bytes ≡ record { files = directory; end = None }
+shown_means bytes directory rate is keeps shown =
+    let outline = outline_shown directory rate in
+    let records = map other_record directory in
+    let of_side = ap side_seen (shown_files directory rate) ∙ side_last directory records in
+    let others = ap others_seen (shown_files directory rate) ∙ others_last directory records in
     let sorted = sorted_from_all_adjacent nat_list_cmp_total (file_names directory) [] (λ k h. is.ascending k [] h) in
-    meaning_by bytes attached shows.side (map other_record directory) shows.outline (side_of-last bytes directory shows.files shows.side are shows.is_side.typed) (ap side_read shows.is_side.holds ∙ side_read_again directory is keeps)
-    ∙ files_given (content_meant attached bytes) directory (all_given bytes attached shows.files directory others (all_found bytes directory shows.files are sorted))
+    meaning_by bytes outline (shown_side records) records shown of_side (side_read_again directory is keeps)
+    ∙ files_given (content_meant outline) directory (all_given outline (map shown_file directory) directory others (all_found directory sorted))
 
 pub package_means : (directory : List File) (rate : ℕ) → IsDirectory directory → IsInProfile directory → 1 ≤ rate → rate ≤ 240 → meaning_of (package_of directory rate) ≡ record { files = directory; end = None }
-package_means directory rate is profile low high = shown_means (package_of directory rate) directory is (keeps directory profile) (package_shows directory rate profile low high)
+package_means directory rate is profile low high = shown_means (package_of directory rate) directory rate is (keeps directory profile) (package_shows directory rate profile low high)

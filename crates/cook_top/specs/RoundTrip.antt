@@ -1,14 +1,16 @@
 -- The laws of the round trip: what a reader sees of the package of a directory, and what the package gives back.
-use Rattle.std.specs.Prelude.{◌≡◌, ℕ, ◌≤◌, Bool, true, false, List, [], ◌∷◌, ◌++◌, length, map, codes, None, Ok, All, IsUtf8}
+use Rattle.std.specs.Prelude.{◌≡◌, ℕ, ◌≤◌, true, false, List, [], ◌∷◌, ◌++◌, length, map, codes, None, Ok, All, IsUtf8}
 use Rattle.std.specs.List.{AllAdjacentBelow}
 use Rattle.cook_bits.specs.Names.{File}
 use Rattle.reversal.specs.SideData.{side_data_of}
+use Rattle.reversal.specs.declared.record.FileRecord.{FileRecord}
 use Rattle.cook_pack.specs.Offence.{IsInProfile}
 use Rattle.cook_pack.specs.Planned.{IsBefore}
 use Rattle.cook_pack.specs.Package.{package_of, others_of, records_of}
 use Rattle.cook_restore.specs.Outline.{outline_of}
-use Rattle.cook_restore.specs.Meaning.{bytes_at, meaning_of}
-use Rattle.cook_restore.specs.declared.matroska_read.files.FileAt.{FileAt}
+use Rattle.cook_restore.specs.Places.{Attached, Block, Outline}
+use Rattle.cook_restore.specs.Meaning.{meaning_of}
+use Rattle.cook_restore.specs.declared.matroska_read.tracks.Track.{Track}
 
 -- the names of a directory's files
 abbrev pub file_names : List File → List (List ℕ)
@@ -21,32 +23,34 @@ pub record IsDirectory (directory : List File) : Type 0 where
 
 -- ---- what a reader sees
 
--- a file that is seen in a package: its name, whether it is the side data, and its content at its place
-pub record IsAttached (bytes name : List ℕ) (side : Bool) (content : List ℕ) (attached : FileAt) : Type 0 where
-  pub named : attached.name ≡ name
-  pub typed : attached.side ≡ side
-  pub long : attached.len ≡ length content
-  pub holds : bytes_at attached bytes ≡ content
+-- a file that is attached as it is
+abbrev pub shown_file : File → Attached
+shown_file file = record { name = file.0; side = false; content = file.1 }
 
--- the files of a directory, one for one and in their order
-unfoldable pub AreAttached : List ℕ → List File → List FileAt → Type 0
-AreAttached bytes [] [] = Unit {0}
-AreAttached bytes [] (attached ∷ others) = ⊥
-AreAttached bytes (file ∷ files) [] = ⊥
-AreAttached bytes (file ∷ files) (attached ∷ others) = IsAttached bytes file.0 false file.1 attached × AreAttached bytes files others
+-- side data
+abbrev pub shown_side : List FileRecord → Attached
+shown_side records = record { name = codes "cook.rev"; side = true; content = side_data_of records }
 
--- The outline of a package shows a directory: the files that are attached as they are, and then the side data of all.
-pub record ShowsDirectory (directory : List File) (bytes : List ℕ) : Type 0 where
-  pub files : List FileAt
-  pub side : FileAt
-  pub outline : outline_of bytes ≡ Ok (files ++ side ∷ [])
-  pub are_files : AreAttached bytes (others_of directory) files
-  pub is_side : IsAttached bytes (codes "cook.rev") true (side_data_of (records_of directory)) side
+-- the tracks: none, as long as no file is coded
+abbrev pub tracks_shown : List File → ℕ → List Track
+tracks_shown directory rate = []
+
+-- the blocks, in the order of their times: none, as long as no file is coded
+abbrev pub blocks_shown : List File → ℕ → List Block
+blocks_shown directory rate = []
+
+-- the files that are attached as they are, in their order, and then the side data of all
+abbrev pub files_shown : List File → List Attached
+files_shown directory = map shown_file (others_of directory) ++ shown_side (records_of directory) ∷ []
+
+-- The outline that shows a directory at a rate.
+unfoldable pub outline_shown : List File → ℕ → Outline
+outline_shown directory rate = record { tracks = tracks_shown directory rate; blocks = blocks_shown directory rate; files = files_shown directory }
 
 -- the package of each directory in the profile shows it
 abbrev pub PackageShowsDirectory : Type 0
 PackageShowsDirectory =
-    (directory : List File) (rate : ℕ) → IsInProfile directory → 1 ≤ rate → rate ≤ 240 → ShowsDirectory directory (package_of directory rate)
+    (directory : List File) (rate : ℕ) → IsInProfile directory → 1 ≤ rate → rate ≤ 240 → outline_of (package_of directory rate) ≡ Ok (outline_shown directory rate)
 
 -- ---- what it gives back
 

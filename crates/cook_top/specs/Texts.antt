@@ -7,7 +7,7 @@ use Rattle.cook_pack.specs.declared.error.RefuseWhy.TheVariants.{NotPlain, BadNa
 use Rattle.cook_restore.specs.declared.error.FileWhy.{FileWhy}
 use Rattle.cook_restore.specs.declared.error.FileWhy.TheVariants as file
 use Rattle.cook_restore.specs.declared.error.PackageWhy.{PackageWhy}
-use Rattle.cook_restore.specs.declared.error.PackageWhy.TheVariants.{Shape, NoSide, SideBad, SideNames, File}
+use Rattle.cook_restore.specs.declared.error.PackageWhy.TheVariants.{Shape, Encoded, TrackUnknown, NoSide, SideBad, SideNames, File}
 use Rattle.cook_top.specs.declared.status.Status.{Status}
 use Rattle.cook_top.specs.declared.status.Status.TheVariants.{Done, Usage, Refused, PackageRefused, InTheWay, ShelfFault, NoMemory, ReportFault, Changed, Missing}
 
@@ -30,6 +30,8 @@ file_reason_of file.Sum = codes "Sum"
 -- the line on the first fault of a package
 unfoldable pub package_line : PackageWhy → List ℕ
 package_line (Shape place) = concat (codes "cook: package: bad structure at byte " ∷ decimal place ∷ codes "\n" ∷ [])
+package_line (Encoded track) = concat (codes "cook: package: encoded track " ∷ decimal track ∷ codes "\n" ∷ [])
+package_line (TrackUnknown track) = concat (codes "cook: package: unknown track " ∷ decimal track ∷ codes "\n" ∷ [])
 package_line NoSide = codes "cook: package: no side data\n"
 package_line (SideBad place) = concat (codes "cook: package: bad side data at byte " ∷ decimal place ∷ codes "\n" ∷ [])
 package_line (SideNames name) = concat (codes "cook: package: bad side name " ∷ name ∷ codes "\n" ∷ [])

@@ -2,10 +2,10 @@
 
 ghost use Rattle.cook_top.specs.RoundTrip.{PackageMeansDirectory, PackageShowsDirectory};
 
-/// The outline of the package of a directory in the profile has its files as attachments in their order, each with its name and its
-/// content, and the side data of their records behind them.
+/// The outline of the package of a directory in the profile is one defined value: the directory's files as attachments in their
+/// order, each with its name and its content, and the side data of their records behind them.
 pub fn n10()
-    ensures { PackageShowsDirectory }
+    ensures shown { PackageShowsDirectory }
 {}
 
 /// The package of a directory in the profile means all of its files, byte for byte, and no fault.

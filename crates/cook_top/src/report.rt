@@ -97,6 +97,22 @@ fn write_fault<O: Sink>(out: &mut O, why: &PackageWhy) -> Result<(), SinkFailed>
                 Text("\n"),
             ],
         ),
+        PackageWhy::Encoded { track } => write_pieces(
+            out,
+            &[
+                Text("cook: package: encoded track "),
+                Number(*track as u128),
+                Text("\n"),
+            ],
+        ),
+        PackageWhy::TrackUnknown { track } => write_pieces(
+            out,
+            &[
+                Text("cook: package: unknown track "),
+                Number(*track as u128),
+                Text("\n"),
+            ],
+        ),
         PackageWhy::NoSide => out.write(b"cook: package: no side data\n"),
         PackageWhy::SideBad { place } => write_pieces(
             out,

@@ -8,7 +8,7 @@ ghost use Rattle.cook_restore.specs.Inside.{AllEndBy, KeepsInside};
 use crate::matroska_read::attached::read_file;
 use crate::matroska_read::element::Ebml;
 use crate::matroska_read::error::Reading;
-use crate::matroska_read::files::Outline;
+use crate::matroska_read::files::AttachedFiles;
 use crate::matroska_read::parts::Element;
 use shelf_core::Shelf;
 use shelf_reader::{Children, Reader, walk};
@@ -18,7 +18,7 @@ const ATTACHED_FILE: u32 = 0x61A7;
 
 // The files of the Attachments, as far as they were read.
 #[tactic(auto, using(shelf_reader::proofs::ReadingLaws::reading_laws, shelf_reader::proofs::KeepingLaws::keeping_laws, crate::proofs::FileLaws::ends_laws), unfolding(crate::specs::Outline::visit_attachments))]
-impl Children<Ebml> for Outline {
+impl Children<Ebml> for AttachedFiles {
     ghost use Rattle.cook_restore.specs.Outline.{visit_attachments};
     ghost use Rattle.cook_restore.specs.Inside.{AllEndBy};
 
@@ -30,7 +30,7 @@ impl Children<Ebml> for Outline {
         self,
         reader: &mut Reader<'_, '_, S>,
         child: Element,
-    ) -> Reading<Outline> {
+    ) -> Reading<AttachedFiles> {
         let mut files = self;
         if child.id != ATTACHED_FILE {
             return Ok(files);
@@ -46,13 +46,13 @@ impl Children<Ebml> for Outline {
 pub fn read_attachments<S: Shelf>(
     reader: &mut Reader<'_, '_, S>,
     element: Element,
-) -> Reading<Outline>
+) -> Reading<AttachedFiles>
     requires ready { IsReady S.Shelf reader.old }
     requires inside { KeepsInside reader.old.len element }
     ensures exact { Answers (known S.Shelf reader.old) (walked_children visit_attachments element []) result }
     ensures ends { IfOk result (AllEndBy reader.old.len) }
     ensures reads { Reads S.Shelf reader.old reader.new result }
 {
-    let files = Outline::new(reader.alloc());
-    walk::<S, Ebml, Outline>(reader, files, element.start, element.end)
+    let files = AttachedFiles::new(reader.alloc());
+    walk::<S, Ebml, AttachedFiles>(reader, files, element.start, element.end)
 }

@@ -11,6 +11,12 @@ pub enum OutlineFault {
     /// The element whose first byte stands at `place` breaks a rule of the format, and none before it does.
     #[error("bad file at byte {place}")]
     Shape { place: u64 },
+    /// The content of a track is encoded.
+    #[error("encoded track {track}")]
+    Encoded { track: u64 },
+    /// A track has a codec that isn't read.
+    #[error("unknown track {track}")]
+    TrackUnknown { track: u64 },
 }
 
 /// Why there is no outline.
@@ -19,6 +25,12 @@ pub enum OutlineError {
     /// The element whose first byte stands at `place` breaks a rule of the format, and none before it does.
     #[error("bad file at byte {place}")]
     Shape { place: u64 },
+    /// The content of a track is encoded.
+    #[error("encoded track {track}")]
+    Encoded { track: u64 },
+    /// A track has a codec that isn't read.
+    #[error("unknown track {track}")]
+    TrackUnknown { track: u64 },
     /// The shelf failed.
     #[error("shelf fault")]
     Failed,
@@ -49,6 +61,10 @@ impl From<ReadError<OutlineFault>> for OutlineError {
     fn from(error: ReadError<OutlineFault>) -> Self {
         match error {
             ReadError::Fault(OutlineFault::Shape { place }) => OutlineError::Shape { place },
+            ReadError::Fault(OutlineFault::Encoded { track }) => OutlineError::Encoded { track },
+            ReadError::Fault(OutlineFault::TrackUnknown { track }) => {
+                OutlineError::TrackUnknown { track }
+            }
             ReadError::Short { now } => OutlineError::Short { now },
             ReadError::Failed => OutlineError::Failed,
             ReadError::NoMemory => OutlineError::NoMemory,

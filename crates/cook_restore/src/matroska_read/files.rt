@@ -1,5 +1,9 @@
-ghost use Rattle.std.specs.Prelude.{◌≡◌, ◌++◌, ◌∷◌, [], OnOk};
+ghost use Rattle.std.specs.Prelude.{◌≡◌, ◌++◌, ◌∷◌, [], ℕ, OnOk};
+ghost use Rattle.cook_restore.specs.Outline.{places_seen};
+ghost use Rattle.cook_restore.specs.Inside.{KeepsWithin, SegmentEndsBy};
 
+use crate::matroska_read::parts::SegmentSeen;
+use crate::matroska_read::tracks::{BlockAt, Track};
 use cook_bits::{Bytes, NoMemory};
 use std::alloc::Global;
 use std::marker::Model;
@@ -17,42 +21,93 @@ pub struct FileAt {
     pub len: u64,
 }
 
-/// What a package holds: the files that are attached, in order of place. Contracts see the list of them.
+/// The files of an Attachments, as far as they were read. Contracts see the list of them.
 #[derive(Debug, Drop)]
-pub struct Outline {
+pub struct AttachedFiles {
     files: Vec<FileAt>,
 }
 
-impl Model for Outline {
+impl Model for AttachedFiles {
     ghost use Rattle.std.specs.Prelude.{List};
     ghost use Rattle.cook_restore.specs.declared.matroska_read.files.FileAt.{FileAt};
 
     ghost Value = { List FileAt };
 
-    ghost view = { λ o. o.files.items };
+    ghost view = { λ attached. attached.files.items };
 }
 
-impl Outline {
-    /// An outline without a file. It takes no memory until files are added.
-    pub(crate) fn new(alloc: Global) -> Outline
+impl AttachedFiles {
+    /// No file. It takes no memory until files are added.
+    pub fn new(alloc: Global) -> AttachedFiles
         ensures { result ≡ [] }
     {
-        Outline {
+        AttachedFiles {
             files: Vec::new(alloc),
         }
     }
 
     /// Adds a file at the end.
-    pub(crate) fn push(&mut self, file: FileAt) -> Result<(), NoMemory>
+    pub fn push(&mut self, file: FileAt) -> Result<(), NoMemory>
         ensures { OnOk result (self.new ≡ self.old ++ file ∷ []) }
     {
         self.files.push(file)?;
         Ok(())
     }
+}
+
+/// What a package holds, by the places of its bytes: its tracks, its blocks and the files that are attached, each in order of
+/// place. No track and no block is read yet. Contracts see the three lists.
+#[derive(Debug, Drop)]
+pub struct Outline {
+    tracks: Vec<Track>,
+    blocks: Vec<BlockAt>,
+    files: Vec<FileAt>,
+}
+
+impl Model for Outline {
+    ghost use Rattle.cook_restore.specs.Places.{Places};
+
+    ghost Value = { Places };
+
+    ghost view = { λ o. record { tracks = o.tracks.items; blocks = o.blocks.items; files = o.files.items } };
+}
+
+impl Outline {
+    /// The outline of a Segment of which all was seen. It takes no memory.
+    #[tactic(auto, using(crate::proofs::FileLaws::ends_laws))]
+    pub(crate) fn new(alloc: Global, seen: SegmentSeen) -> Outline
+        ensures exact { result ≡ places_seen seen }
+        ensures within { (end : ℕ) → SegmentEndsBy end seen → KeepsWithin end result }
+    {
+        let attached = match seen.files {
+            Some(attached) => attached,
+            None => AttachedFiles::new(alloc),
+        };
+        let AttachedFiles { files } = attached;
+        Outline {
+            tracks: Vec::new(alloc),
+            blocks: Vec::new(alloc),
+            files,
+        }
+    }
+
+    /// The tracks, in order of place. It takes no memory.
+    pub fn tracks(&self) -> &[Track]
+        ensures { result.now ≡ self.now.tracks }
+    {
+        self.tracks.as_slice()
+    }
+
+    /// The blocks of all tracks, in order of place. It takes no memory.
+    pub fn blocks(&self) -> &[BlockAt]
+        ensures { result.now ≡ self.now.blocks }
+    {
+        self.blocks.as_slice()
+    }
 
     /// The attached files, in order of place. It takes no memory.
     pub fn files(&self) -> &[FileAt]
-        ensures { result.now ≡ self.now }
+        ensures { result.now ≡ self.now.files }
     {
         self.files.as_slice()
     }

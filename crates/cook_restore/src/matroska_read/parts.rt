@@ -1,4 +1,4 @@
-use crate::matroska_read::files::Outline;
+use crate::matroska_read::files::AttachedFiles;
 
 /// An element of a file, by places of the file.
 #[derive(Clone, Copy, Debug, PartialEq, Eq)]
@@ -50,5 +50,5 @@ pub struct HeaderSeen {
 #[derive(Debug, Drop)]
 pub struct SegmentSeen {
     /// The files of its Attachments, where those were seen.
-    pub files: Option<Outline>,
+    pub files: Option<AttachedFiles>,
 }

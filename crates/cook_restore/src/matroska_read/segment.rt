@@ -2,7 +2,7 @@ ghost use Rattle.std.specs.Prelude.{◌≤◌, None, IfOk, IfSome};
 ghost use Rattle.shelf_reader.specs.Keeping.{known, IsReady, Reads};
 ghost use Rattle.shelf_reader.specs.Readings.{Answers};
 ghost use Rattle.cook_restore.specs.Outline.{segment_read};
-ghost use Rattle.cook_restore.specs.Inside.{AllEndBy, KeepsInside};
+ghost use Rattle.cook_restore.specs.Inside.{KeepsInside, KeepsWithin};
 
 use crate::matroska_read::attachments::read_attachments;
 use crate::matroska_read::element::Ebml;
@@ -46,13 +46,13 @@ impl Children<Ebml> for SegmentSeen {
     }
 }
 
-/// The files of a Segment, behind which the file ends.
+/// The outline of a Segment, behind which the file ends.
 #[tactic(auto, using(shelf_reader::proofs::ReadingLaws::reading_laws, shelf_reader::proofs::KeepingLaws::keeping_laws, crate::proofs::FileLaws::ends_laws), unfolding(crate::specs::Outline::segment_read))]
 pub fn read_segment<S: Shelf>(reader: &mut Reader<'_, '_, S>, element: Element) -> Reading<Outline>
     requires ready { IsReady S.Shelf reader.old }
     requires inside { KeepsInside reader.old.len element }
     ensures exact { Answers (known S.Shelf reader.old) (segment_read reader.old.len element) result }
-    ensures ends { IfOk result (AllEndBy reader.old.len) }
+    ensures within { IfOk result (KeepsWithin reader.old.len) }
     ensures reads { Reads S.Shelf reader.old reader.new result }
 {
     let unseen = SegmentSeen { files: None };
@@ -60,8 +60,5 @@ pub fn read_segment<S: Shelf>(reader: &mut Reader<'_, '_, S>, element: Element) 
     if element.end != reader.len() {
         return Err(shape(element.end));
     }
-    match seen.files {
-        Some(files) => Ok(files),
-        None => Ok(Outline::new(reader.alloc())),
-    }
+    Ok(Outline::new(reader.alloc(), seen))
 }

@@ -1,10 +1,10 @@
-ghost use Rattle.std.specs.Prelude.{◌≡◌, ◌≤◌, ◌+◌, Ok, length, All, IfOk, IfErr};
+ghost use Rattle.std.specs.Prelude.{◌≤◌, IfOk, IfErr};
 ghost use Rattle.shelf_core.specs.Reads.{OnlyReads, Has};
 ghost use Rattle.shelf_reader.specs.Keeping.{known, IsReady, Reads};
 ghost use Rattle.shelf_reader.specs.Readings.{Answers};
 ghost use Rattle.cook_restore.specs.Answered.{OutlineStops, OutlinesOn, RefusesOn};
-ghost use Rattle.cook_restore.specs.Outline.{outline_in};
-ghost use Rattle.cook_restore.specs.Inside.{EndsBy, AllEndBy};
+ghost use Rattle.cook_restore.specs.Outline.{places_in};
+ghost use Rattle.cook_restore.specs.Inside.{KeepsWithin};
 
 use crate::matroska_read::element::read_segment_head;
 use crate::matroska_read::error::{OutlineError, Reading};
@@ -16,11 +16,11 @@ use shelf_reader::Reader;
 use std::alloc::Global;
 
 // The outline, as a reading of what is seen of the file.
-#[tactic(auto, using(shelf_reader::proofs::ReadingLaws::reading_laws, shelf_reader::proofs::KeepingLaws::keeping_laws), unfolding(crate::specs::Outline::outline_in))]
+#[tactic(auto, using(shelf_reader::proofs::ReadingLaws::reading_laws, shelf_reader::proofs::KeepingLaws::keeping_laws), unfolding(crate::specs::Outline::places_in))]
 fn read_outline<S: Shelf>(reader: &mut Reader<'_, '_, S>) -> Reading<Outline>
     requires ready { IsReady S.Shelf reader.old }
-    ensures exact { Answers (known S.Shelf reader.old) (outline_in reader.old.len) result }
-    ensures ends { IfOk result (AllEndBy reader.old.len) }
+    ensures exact { Answers (known S.Shelf reader.old) (places_in reader.old.len) result }
+    ensures within { IfOk result (KeepsWithin reader.old.len) }
     ensures reads { Reads S.Shelf reader.old reader.new result }
 {
     let place = read_header(reader)?;
@@ -28,7 +28,8 @@ fn read_outline<S: Shelf>(reader: &mut Reader<'_, '_, S>) -> Reading<Outline>
     read_segment(reader, segment)
 }
 
-/// The outline of a file of `len` bytes, read as a Matroska file (RFC 9559): the files that are attached to it.
+/// The outline of a file of `len` bytes, read as a Matroska file (RFC 9559): its tracks, its blocks and the files that are
+/// attached to it. No track and no block is read yet.
 ///
 /// Where the shelf tells its files and `len` is the file's length, the answer is the definition's, also in the place of the
 /// first fault. No size that the file says of an element is believed before it was compared with where its parent ends.
@@ -42,7 +43,7 @@ pub fn outline<S: Shelf>(
     ensures exact { IfOk result (OutlinesOn S.Shelf shelf.old name.now len) }
     ensures fault { IfErr result (RefusesOn S.Shelf shelf.old name.now len) }
     ensures cause { IfErr result (OutlineStops S.Shelf len shelf.old shelf.new) }
-    ensures within { IfOk result (All (EndsBy len)) }
+    ensures within { IfOk result (KeepsWithin len) }
     ensures kept { OnlyReads S.Shelf shelf.old shelf.new }
 {
     let mut window = Vec::new(alloc);

@@ -2,8 +2,7 @@ use Rattle.std.proofs.Common.{◌≡◌, ◌≤◌, List, ℕ, drop, length}
 use Rattle.std.specs.BTreeMap as tree
 use Rattle.std.specs.Cmp.Lexicographic.{slice_cmp}
 use Rattle.std.specs.Ordering.{nat_cmp}
-use Rattle.cook_restore.specs.Contents.{place_or}
-use Rattle.cook_restore.specs.Meaning.{attached_as}
+use Rattle.cook_restore.specs.Contents.{attached_as, place_or}
 use Rattle.cook_restore.proofs.contents.add_names.Given as goal
 
 abbrev pub invariant-loop-left : goal.invariant-loop-left

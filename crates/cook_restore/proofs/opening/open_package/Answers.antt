@@ -1,7 +1,6 @@
 use Rattle.std.proofs.Common.{subst, sym}
-use Rattle.cook_restore.specs.Inside.{AllEndBy}
-use Rattle.cook_restore.proofs.OpenLaws.{end_by-all}
+use Rattle.cook_restore.specs.Inside.{KeepsWithin}
 use Rattle.cook_restore.proofs.opening.open_package.Goals as goal
 
 pub invariant_of-result-2-clause-within : goal.invariant_of-result-2-clause-within
-invariant_of-result-2-clause-within g c = end_by-all c.in_ok-len.len _ (subst (AllEndBy c.in_ok-len.len) (sym c.outline.view_is) c.in_ok-outline.ensures.within)
+invariant_of-result-2-clause-within g c = (subst (KeepsWithin c.in_ok-len.len) (sym c.outline.view_is) c.in_ok-outline.ensures.within).files

@@ -1,8 +1,5 @@
-use Rattle.cook_restore.proofs.OpenLaws.{all-end_by, outlined-not_opened}
+use Rattle.cook_restore.proofs.OpenLaws.{outlined-not_opened}
 use Rattle.cook_restore.proofs.opening.package_outline.Goals as goal
-
-pub returns-in-Ok-clause-within : goal.returns-in-Ok-clause-within
-returns-in-Ok-clause-within g c = all-end_by c.args.len _ c.in-Ok.ensures.within
 
 pub returns-in-Err-clause-stopped : goal.returns-in-Err-clause-stopped
 returns-in-Err-clause-stopped g c =

@@ -2,4 +2,4 @@ use Rattle.cook_top.proofs.PackageLaws.{package_shows}
 use Rattle.cook_top.proofs.laws.n10.Goals as goal
 
 pub returns : goal.returns
-returns c = package_shows
+returns c = record { shown = package_shows }

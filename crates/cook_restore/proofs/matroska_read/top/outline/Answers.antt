@@ -1,8 +1,7 @@
 use Rattle.std.proofs.Common.{◌≡◌, refl, subst, rules}
 use Rattle.shelf_reader.specs.Keeping.{known}
 use Rattle.shelf_reader.specs.Seen.{seen}
-use Rattle.cook_restore.specs.Inside.{AllEndBy}
-use Rattle.cook_restore.proofs.OpenLaws.{end_by-all}
+use Rattle.cook_restore.specs.Inside.{KeepsWithin}
 use Rattle.cook_restore.proofs.TopLaws.{outline-known, outline-refused}
 use Rattle.cook_restore.proofs.matroska_read.top.outline.Goals as goal
 
@@ -18,4 +17,4 @@ returns-clause-exact g c =
     outline-known (g.S.Shelf.files c.args.shelf.now) c.args.name.now c.args.len c.new-reader.result.len _ _ same c.new-reader.ensures.len c.in_ok-read_outline.ensures.exact
 
 pub returns-clause-within : goal.returns-clause-within
-returns-clause-within g c = end_by-all c.args.len _ (subst (λ n. AllEndBy n c.in_ok-read_outline.field-0) c.new-reader.ensures.len c.in_ok-read_outline.ensures.ends)
+returns-clause-within g c = subst (λ n. KeepsWithin n c.in_ok-read_outline.field-0) c.new-reader.ensures.len c.in_ok-read_outline.ensures.within

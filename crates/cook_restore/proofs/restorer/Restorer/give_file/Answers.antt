@@ -16,7 +16,7 @@ give-requires-clause-listed g c = listed-in _ _ c.args.number _ c.args.self.now.
 pub give-requires-clause-ends : goal.give-requires-clause-ends
 give-requires-clause-ends g c =
     let place = c.index-2.ensures ∙ place-at _ _ _ _ _ c.args.self.now.placed c.requires.inside in
-    subst (λ o. IfSome o (PlaceEndsBy c.args.self.now.len)) (sym place) (place-ends c.args.self.now.len (record_at c.args.self.now c.args.number) c.args.self.now.outline c.args.self.now.within)
+    subst (λ o. IfSome o (PlaceEndsBy c.args.self.now.len)) (sym place) (place-ends c.args.self.now.len (record_at c.args.self.now c.args.number) c.args.self.now.outline.files c.args.self.now.within)
 
 pub returns-clause-given : goal.returns-clause-given
 returns-clause-given g c =
