@@ -132,8 +132,8 @@ fn limit_of(bits: u32) -> i64
     i64::from(1u32 << (bits - 1))
 }
 
-// Whether the numbers are inside so many bits.
-fn are_inside(numbers: &[i32], bits: u32) -> bool
+/// Whether the numbers are inside so many bits.
+pub fn are_inside(numbers: &[i32], bits: u32) -> bool
     requires low { 1 ≤ bits }
     requires high { bits ≤ 25 }
     ensures { IsTrue result → AreInside bits numbers.now }
