@@ -1,3 +1,4 @@
+pub mod Fewer
 pub mod Free
 pub mod Given
 pub mod Growing
@@ -7,6 +8,7 @@ pub mod Pieces
 pub mod Refusals
 pub mod Searches
 pub mod Spans
+pub mod Taken
 pub mod Trees
 pub mod Sorting
 pub mod Walked

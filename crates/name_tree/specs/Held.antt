@@ -1,6 +1,6 @@
 -- Names that are held, in order of insertion, and the folders that were given.
 use Rattle.std.specs.Prelude.{◌≡◌, ℕ, Bool, not, ◌||◌, List, [], ◌∷◌, map, Option, Some, None, Result, Ok, Err, if◌then◌else◌}
-use Rattle.std.specs.List.{list_any, enumerate_from}
+use Rattle.std.specs.List.{list_any, count_by, enumerate_from}
 use Rattle.std.specs.Ordering.{nat_cmp, is_lt}
 use Rattle.std.specs.Cmp.Lexicographic.{slice_cmp}
 use Rattle.cook_bits.specs.Names.{is_same_name, is_relative_name, proper_folders_of, holds_folder_of}
@@ -62,6 +62,10 @@ first_left given (folder ∷ folders) = if is_among given folder then first_left
 -- the shortest proper folder of the name that was not given
 unfoldable pub folder_left : List (List ℕ) → List ℕ → Option (List ℕ)
 folder_left given name = first_left given (proper_folders_of name)
+
+-- how many proper folders of the name were not given
+unfoldable pub left_count : List (List ℕ) → List ℕ → ℕ
+left_count given name = count_by (λ folder. not (is_among given folder)) (proper_folders_of name)
 
 -- the folders that were given, and this one
 abbrev pub WithFolder : List (List ℕ) → List (List ℕ) → Option (List ℕ) → Type 0

@@ -7,3 +7,4 @@ pub mod Nodes
 pub mod Searching
 pub mod Walking
 pub mod Giving
+pub mod Laws

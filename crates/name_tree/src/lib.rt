@@ -5,6 +5,7 @@
 mod error;
 mod folders;
 mod insertion;
+pub mod laws;
 mod node;
 mod search;
 mod sharing;

@@ -1,6 +1,6 @@
-ghost use Rattle.std.specs.Prelude.{◌≡◌, ◌++◌, ◌∷◌, [], true, length, OnOk, OnErr};
+ghost use Rattle.std.specs.Prelude.{◌≡◌, ◌<◌, ◌++◌, ◌∷◌, [], true, length, IfSome, OnOk, OnErr};
 ghost use Rattle.std.specs.Option.{option_map};
-ghost use Rattle.name_tree.specs.Held.{Answers, refusal_of, walk_of, is_among, folder_left, WithFolder};
+ghost use Rattle.name_tree.specs.Held.{Answers, refusal_of, walk_of, is_among, folder_left, left_count, WithFolder};
 
 use crate::NameError;
 use crate::folders::give;
@@ -76,6 +76,7 @@ impl NameTree {
         requires { is_among self.old.names name.now ≡ true }
         ensures length { result ≡ option_map length (folder_left self.old.given name.now) }
         ensures given { WithFolder self.old.given self.new.given (folder_left self.old.given name.now) }
+        ensures fewer { IfSome result (λ _. left_count self.new.given name.now < left_count self.old.given name.now) }
         ensures names { self.new.names ≡ self.old.names }
     {
         let ahead = give(&mut self.nodes, &self.names, self.last, name.as_bytes());

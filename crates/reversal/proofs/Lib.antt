@@ -3,5 +3,6 @@ pub mod Lengths
 pub mod Loop
 pub mod NameFaults
 pub mod NamesFound
+pub mod NamesTaken
 pub mod Round
 pub mod Texts

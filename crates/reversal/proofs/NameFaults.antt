@@ -38,14 +38,17 @@ pub map_append : (xs ys : List FileRecord) → names_of (xs ++ ys) ≡ names_of 
 map_append [] ys = refl
 map_append (x ∷ xs) ys = ap (λ (names : List (List ℕ)). x.name ∷ names) (map_append xs ys)
 
+-- the names of one record more
+pub one_more : (records : List FileRecord) (at : ℕ) (r : FileRecord) → at < length records → r ≡ get_or records at r → names_of (take at records) ++ r.name ∷ [] ≡ names_of (take (at + 1) records)
+one_more records at r lt is = sym (rw add-one (ap names_of (take-suc records at r lt ∙ ap (λ (x : FileRecord). take at records ++ x ∷ []) (sym is)) ∙ map_append (take at records) (r ∷ [])))
+
 pub bad_step : (records : List FileRecord) (at : ℕ) (r : FileRecord) → at < length records → r ≡ get_or records at r
     → bad_from records at ≡ (if is_good_name (names_of (take at records)) r.name then bad_from records (at + 1) else Some r.name)
 unfolding bad_from bad_name_after
 bad_step records at r lt is =
     let here : drop at records ≡ r ∷ drop (at + 1) records = rw add-one (drop-cons records at r lt ∙ ap (λ (x : FileRecord). x ∷ drop (suc at) records) (sym is)) in
-    let before : names_of (take at records) ++ r.name ∷ [] ≡ names_of (take (at + 1) records) = sym (rw add-one (ap names_of (take-suc records at r lt ∙ ap (λ (x : FileRecord). take at records ++ x ∷ []) (sym is)) ∙ map_append (take at records) (r ∷ []))) in
     ap (λ (rest : List FileRecord). bad_name_after (names_of (take at records)) (names_of rest)) here
-    ∙ ap (λ (held : List (List ℕ)). if is_good_name (names_of (take at records)) r.name then bad_name_after held (names_of (drop (at + 1) records)) else Some r.name) before
+    ∙ ap (λ (held : List (List ℕ)). if is_good_name (names_of (take at records)) r.name then bad_name_after held (names_of (drop (at + 1) records)) else Some r.name) (one_more records at r lt is)
 
 pub bad_here : (records : List FileRecord) (at : ℕ) (r : FileRecord) → at < length records → r ≡ get_or records at r → is_good_name (names_of (take at records)) r.name ≡ false → bad_from records at ≡ Some r.name
 bad_here records at r lt is bad = bad_step records at r lt is ∙ ap (λ (b : Bool). if b then bad_from records (at + 1) else Some r.name) bad

@@ -7,7 +7,7 @@ use crate::unread::Unread;
 use crate::writing::{MARK, OTHER};
 use crate::{FileRecord, Kind, SideError};
 use byteorder::{BigEndian, ByteOrder};
-use cook_bits::{Bytes, Name};
+use cook_bits::{Bytes, Name, NoMemory};
 use std::alloc::Global;
 use std::str::from_utf8;
 
@@ -151,12 +151,13 @@ fn named_records_of(alloc: Global, bytes: &[u8]) -> Result<Vec<FileRecord>, Side
         }
         Err(Unread::NoMemory) => return Err(SideError::NoMemory),
     };
-    match first_bad_name(&records) {
-        None => Ok(records),
-        Some(at) => {
+    match first_bad_name(alloc, &records) {
+        Ok(None) => Ok(records),
+        Ok(Some(at)) => {
             let FileRecord { name, .. } = records.swap_remove(at);
             Err(SideError::SideNames { name })
         }
+        Err(NoMemory) => Err(SideError::NoMemory),
     }
 }
 

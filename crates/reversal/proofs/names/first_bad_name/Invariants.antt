@@ -9,6 +9,7 @@ use Rattle.reversal.proofs.names.first_bad_name.Given as goal
 
 abbrev pub invariant-loop-at : goal.invariant-loop-at
 invariant-loop-at l = record {
+  held : l.tree.names ≡ names_of (take l.at l.records);
   sorted : IsSortedByKey (λ r. r.name) (slice_cmp nat_cmp) (take l.at l.records);
   later : bad_from l.records l.at ≡ first_bad_name (names_of l.records);
 }
