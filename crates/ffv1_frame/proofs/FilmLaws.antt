@@ -1,5 +1,5 @@
 -- The frame that is written of a picture means it.
-use Rattle.std.proofs.Common.{◌≡◌, ℕ, zero, suc, ◌+◌, ◌-◌, ◌*◌, ◌/◌, ◌%◌, ◌^◌, ◌<◌, ◌≤◌, ◌⊎◌, inl, inr, Bool, true, cond, ◌==◌, List, [], length, map, get_or, All, refl, sym, ◌∙◌, ap, ap₂, subst, arith}
+use Rattle.std.proofs.Common.{◌≡◌, ℕ, zero, suc, ◌+◌, ◌-◌, ◌*◌, ◌/◌, ◌%◌, ◌^◌, ◌<◌, ◌≤◌, ◌⊎◌, inl, inr, Bool, true, cond, ◌==◌, List, [], length, map, get_or, All, Ok, refl, sym, ◌∙◌, ap, ap₂, subst, arith}
 use Rattle.std.specs.List.{count_by, range_with_len}
 use Rattle.std.proofs.Math.Nat.{mul-le-mul_left}
 use Rattle.std.proofs.lemmas.Bool.{cases_lt}
@@ -13,7 +13,7 @@ use Rattle.cook_bits.specs.Laws.{ParityLeavesZero}
 use Rattle.dpx_packing.specs.declared.tile.Tile.{Tile}
 use Rattle.dpx_packing.specs.Tiles.{has_place, CoverOnce, IsInside as IsTileInside, tile_samples, tile_size, place_of}
 use Rattle.dpx_packing.specs.TileLaws.{TilesHoldTheirPixels, HoldsItsPixels}
-use Rattle.ffv1_params.specs.Laws.{FilmRows}
+use Rattle.ffv1_params.specs.Laws.{FilmIsSound, FilmRows}
 use Rattle.ffv1_params.specs.Parameters.{Parameters, AreFilm, IsPicture, film_params, film_lines, film_rows}
 use Rattle.ffv1_slice.specs.declared.head.SliceHead.{SliceHead}
 use Rattle.ffv1_slice.specs.Laws.{IsInside, CodedIsCode, CodedIsHead, CodedIsSome, CodedIsFew}
@@ -30,7 +30,7 @@ use Rattle.ffv1_frame.proofs.FooterLaws.{cut-again}
 
 -- ---- the parameters
 
-film-columns : (params : Parameters) → AreFilm params → params.columns ≡ 1
+pub film-columns : (params : Parameters) → AreFilm params → params.columns ≡ 1
 unfolding film_params
 film-columns params film = ap (λ (p : Parameters). p.columns) film.are
 
@@ -48,7 +48,7 @@ film-inside params row film low =
     let sets : length params.sets ≡ 1 = film-sets params film in
     record { columns_some = omega arith; rows_some = omega arith; across = omega arith; down = omega arith; luma_index = omega arith; difference_index = omega arith; count = refl }
 
-film-is_grid : FilmRows → (params : Parameters) (width height : ℕ) → AreFilmOf params width height → IsPicture width height → IsGrid (film_grid params width height)
+pub film-is_grid : FilmRows → (params : Parameters) (width height : ℕ) → AreFilmOf params width height → IsPicture width height → IsGrid (film_grid params width height)
 film-is_grid law params width height are size =
     let rows : params.rows ≡ film_rows width height = are.rows in
     let some : 1 ≤ film_rows width height = law.some width height size in
@@ -59,7 +59,7 @@ film-is_grid law params width height are size =
 
 -- ---- its tiles
 
-film-wide : (params : Parameters) (width height row : ℕ) → (film_tile params width height row).width ≡ width
+pub film-wide : (params : Parameters) (width height row : ℕ) → (film_tile params width height row).width ≡ width
 film-wide params width height row =
     let last : edge 1 width 1 ≡ width = edge-last 1 width (omega arith) in
     let first : edge 1 width 0 ≡ 0 = edge-first 1 width (omega arith) in
@@ -81,7 +81,7 @@ film-small law params width height row are size =
     ap (λ n. n * (film_tile params width height row).height) (film-wide params width height row) in
     omega (arith, product, bytes, wide)
 
-film-tile_inside : FilmRows → (params : Parameters) (width height row : ℕ) → AreFilmOf params width height → IsPicture width height → row < params.rows
+pub film-tile_inside : FilmRows → (params : Parameters) (width height row : ℕ) → AreFilmOf params width height → IsPicture width height → row < params.rows
     → IsTileInside width height (film_tile params width height row)
 film-tile_inside law params width height row are size low =
     pixels-inside (film_grid params width height) (cells_of (film_head row)) (film-is_grid law params width height are size) (record { across_high = omega arith; down_high = omega arith })
@@ -107,7 +107,7 @@ below bits samples i within =
       | inr past ↦ let P : ℕ → Type 0 = λ n. n < 2 ^ bits in subst P (sym (get_or_past samples i 0 past)) (pow_pos bits)
     ]
 
-film-samples : TilesHoldTheirPixels → (bits width height : ℕ) (samples : List ℕ) (tile : Tile) → IsPictureIn bits width height samples → IsTileInside width height tile
+pub film-samples : TilesHoldTheirPixels → (bits width height : ℕ) (samples : List ℕ) (tile : Tile) → IsPictureIn bits width height samples → IsTileInside width height tile
     → IsTile bits tile.width tile.height (tile_samples width samples tile)
 film-samples law bits width height samples tile is inside =
     let holds : HoldsItsPixels width samples tile = law width height samples tile inside is.long in
@@ -159,7 +159,7 @@ cells-inside rows from (suc count) fits =
     (record { across_high = omega arith; down_high = omega arith })
     (cells-inside rows (from + 1) count (omega arith))
 
-film-cover : (count : ℕ) → CoverOnce 1 count (map cells_of (map film_head (range_with_len 0 count)))
+pub film-cover : (count : ℕ) → CoverOnce 1 count (map cells_of (map film_head (range_with_len 0 count)))
 film-cover count = record { inside = cells-inside count 0 count (omega arith); once = λ x y x_low y_low. count-one x y 0 count x_low (omega arith) (omega arith) }
 
 -- ---- the frame
@@ -171,11 +171,12 @@ pub record SliceLaws : Type 0 where
   pub some : CodedIsSome
   pub few : CodedIsFew
   pub rows : FilmRows
+  pub sound : FilmIsSound
   pub pixels : TilesHoldTheirPixels
   pub parity : ParityLeavesZero
 
 -- a slice of the frame, as what is known of it
-record IsFilmSlice (params : Parameters) (width height : ℕ) (samples : List ℕ) (row : ℕ) : Type 0 where
+pub record IsFilmSlice (params : Parameters) (width height : ℕ) (samples : List ℕ) (row : ℕ) : Type 0 where
   pub slice : IsSlice (film_slice params width height samples row)
   pub head : CodesHead params (row == 0) (film_slice params width height samples row) (film_head row)
   pub codes : CodesTile params (film_grid params width height) row (film_slice params width height samples row) (film_head row) (tile_samples width samples (film_tile params width height row))
@@ -183,7 +184,7 @@ record IsFilmSlice (params : Parameters) (width height : ℕ) (samples : List �
 below_footer : (n : ℕ) → n ≤ 16001000 → n < 2 ^ 24
 below_footer n few = omega arith
 
-film-slice : SliceLaws → (params : Parameters) (width height : ℕ) (samples : List ℕ) (row : ℕ) → AreFilmOf params width height → IsPictureIn params.bits width height samples → row < params.rows
+pub film-slice : SliceLaws → (params : Parameters) (width height : ℕ) (samples : List ℕ) (row : ℕ) → AreFilmOf params width height → IsPictureIn params.bits width height samples → row < params.rows
     → IsFilmSlice params width height samples row
 unfolding film_slice
 film-slice laws params width height samples row are is low =
@@ -192,18 +193,18 @@ film-slice laws params width height samples row are is low =
     let tile : IsTile params.bits (film_tile params width height row).width (film_tile params width height row).height (tile_samples width samples (film_tile params width height row)) =
     film-samples laws.pixels params.bits width height samples (film_tile params width height row) is tile_in in
     let wide : 1 ≤ (film_tile params width height row).width = let e : (film_tile params width height row).width ≡ width = film-wide params width height row in let some : 1 ≤ width = is.size.width_some in omega (arith, e, some) in
-    let few = laws.few params (film_head row) (film_tile params width height row).width (film_tile params width height row).height (row == 0) (tile_samples width samples (film_tile params width height row)) are.sound inside
+    let few = laws.few params (film_head row) (film_tile params width height row).width (film_tile params width height row).height (row == 0) (tile_samples width samples (film_tile params width height row)) (laws.sound params are.film) inside
     (film-small laws.rows params width height row are is.size) in
     record {
       slice = record {
-        some = laws.some params (film_head row) (film_tile params width height row).width (film_tile params width height row).height (row == 0) (tile_samples width samples (film_tile params width height row)) are.sound inside wide tile;
+        some = laws.some params (film_head row) (film_tile params width height row).width (film_tile params width height row).height (row == 0) (tile_samples width samples (film_tile params width height row)) (laws.sound params are.film) inside wide tile;
         small = below_footer _ few;
       };
-      head = laws.head params (film_head row) (film_tile params width height row).width (film_tile params width height row).height (row == 0) (tile_samples width samples (film_tile params width height row)) are.sound inside wide tile;
-      codes = laws.code params (film_head row) (film_tile params width height row).width (film_tile params width height row).height (row == 0) (tile_samples width samples (film_tile params width height row)) are.sound inside wide tile;
+      head = laws.head params (film_head row) (film_tile params width height row).width (film_tile params width height row).height (row == 0) (tile_samples width samples (film_tile params width height row)) (laws.sound params are.film) inside wide tile;
+      codes = laws.code params (film_head row) (film_tile params width height row).width (film_tile params width height row).height (row == 0) (tile_samples width samples (film_tile params width height row)) (laws.sound params are.film) inside wide tile;
     }
 
-film-slices : SliceLaws → (params : Parameters) (width height : ℕ) (samples : List ℕ) → AreFilmOf params width height → IsPictureIn params.bits width height samples
+pub film-slices : SliceLaws → (params : Parameters) (width height : ℕ) (samples : List ℕ) → AreFilmOf params width height → IsPictureIn params.bits width height samples
     → All IsSlice (film_slices params width height samples)
 film-slices laws params width height samples are is =
     All-from_get_or IsSlice (film_slices params width height samples) [] (λ k listed.
@@ -211,16 +212,24 @@ film-slices laws params width height samples are is =
     let low : k < params.rows = omega (arith, size, listed) in
     subst IsSlice (sym (get_or-map-range_with_len (film_slice params width height samples) 0 params.rows k k [] low (omega arith))) (film-slice laws params width height samples k are is low).slice)
 
--- the frame of a picture means the picture
-pub film-means : SliceLaws → (params : Parameters) (width height : ℕ) (samples : List ℕ) → AreFilmOf params width height → IsPictureIn params.bits width height samples
-    → IsPictureOf params (film_grid params width height) (film_frame params width height samples) samples
+-- the written frame is cut into the writer's slices
+pub film-cut : SliceLaws → (params : Parameters) (width height : ℕ) (samples : List ℕ) → AreFilmOf params width height → IsPictureIn params.bits width height samples
+    → slices_of params.ec (film_frame params width height samples) ≡ Ok (film_slices params width height samples)
 unfolding film_frame
-film-means laws params width height samples are is =
+film-cut laws params width height samples are is =
     let size : length (film_slices params width height samples) ≡ params.rows = length-map-range_with_len (film_slice params width height samples) 0 params.rows in
-    let heads : length (map film_head (range_with_len 0 params.rows)) ≡ params.rows = length-map-range_with_len film_head 0 params.rows in
     let grid : IsGrid (film_grid params width height) = film-is_grid laws.rows params width height are is.size in
     let rows : 1 ≤ params.rows = grid.rows_some in
     let few : 1 * params.rows ≤ 1024 = grid.cells in
+    ap (λ (ec : Bool). slices_of ec (frame_of_slices (film_slices params width height samples))) (film-ec params are.film)
+    ∙ cut-again laws.parity (film_slices params width height samples) (film-slices laws params width height samples are is) (omega (arith, size, rows)) (omega (arith, size, few))
+
+-- the frame of a picture means the picture
+pub film-means : SliceLaws → (params : Parameters) (width height : ℕ) (samples : List ℕ) → AreFilmOf params width height → IsPictureIn params.bits width height samples
+    → IsPictureOf params (film_grid params width height) (film_frame params width height samples) samples
+film-means laws params width height samples are is =
+    let size : length (film_slices params width height samples) ≡ params.rows = length-map-range_with_len (film_slice params width height samples) 0 params.rows in
+    let heads : length (map film_head (range_with_len 0 params.rows)) ≡ params.rows = length-map-range_with_len film_head 0 params.rows in
     let slice : (k : ℕ) → k < params.rows → slice_at (film_slices params width height samples) k ≡ film_slice params width height samples k = λ k low.
     get_or-map-range_with_len (film_slice params width height samples) 0 params.rows k k [] low (omega arith) in
     let head : (k : ℕ) → k < params.rows → head_at (map film_head (range_with_len 0 params.rows)) k ≡ film_head k = λ k low.
@@ -229,9 +238,7 @@ film-means laws params width height samples are is =
       slices = film_slices params width height samples;
       heads = map film_head (range_with_len 0 params.rows);
       cut = record {
-        slices_are =
-            ap (λ (ec : Bool). slices_of ec (frame_of_slices (film_slices params width height samples))) (film-ec params are.film)
-            ∙ cut-again laws.parity (film_slices params width height samples) (film-slices laws params width height samples are is) (omega (arith, size, rows)) (omega (arith, size, few));
+        slices_are = film-cut laws params width height samples are is;
         heads_are = record {
           count = heads ∙ sym size;
           each = λ k listed.

@@ -5,4 +5,6 @@ mod FilmLaws
 mod FooterLaws
 pub mod HeadLaws
 pub mod Marking
+mod OneLaws
 mod SettleLaws
+mod WrittenTiles

@@ -125,7 +125,7 @@ is-cut_tiles params grid bytes parts of cut =
     let Q : List Tile → Type 0 = λ ts. CoverOnce grid.width grid.height ts in
     subst Q (tiles-same grid parts) (cells-cover grid (map cells_of (map head_of parts)) of.is cut.into.cover)
 
-head-pixels : (grid : Grid) (head : SliceHead) → IsGrid grid → IsHeadIn grid head → HasPixels (tile_of grid head)
+pub head-pixels : (grid : Grid) (head : SliceHead) → IsGrid grid → IsHeadIn grid head → HasPixels (tile_of grid head)
 head-pixels grid head is inside =
     let across : edge grid.columns grid.width head.x < edge grid.columns grid.width (head.x + head.columns) =
     edges-apart grid.columns grid.width head.x (head.x + head.columns) is.columns_some is.columns_most (let some : 1 ≤ head.columns = inside.columns_some in omega arith) in

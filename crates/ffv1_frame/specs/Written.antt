@@ -4,7 +4,7 @@ use Rattle.std.specs.List.{range_with_len}
 use Rattle.range_coder.specs.Interval.{coded}
 use Rattle.dpx_packing.specs.declared.tile.Tile.{Tile}
 use Rattle.dpx_packing.specs.Tiles.{tile_samples}
-use Rattle.ffv1_params.specs.Parameters.{Parameters, AreFilm, AreSound, IsPicture, film_rows}
+use Rattle.ffv1_params.specs.Parameters.{Parameters, AreFilm, IsPicture, film_rows}
 use Rattle.ffv1_slice.specs.declared.head.SliceHead.{SliceHead}
 use Rattle.ffv1_slice.specs.Slice.{slice_decisions}
 use Rattle.ffv1_frame.specs.declared.cells.Grid.{Grid}
@@ -20,6 +20,10 @@ film_grid params width height = record { columns = 1; rows = params.rows; width 
 abbrev pub film_tile : Parameters → ℕ → ℕ → ℕ → Tile
 film_tile params width height row = tile_of (film_grid params width height) (film_head row)
 
+-- the tiles of its slices, in order
+abbrev pub film_tiles : Parameters → ℕ → ℕ → List Tile
+film_tiles params width height = map (film_tile params width height) (range_with_len 0 params.rows)
+
 -- the coded bytes of a row of cells
 unfoldable pub film_slice : Parameters → ℕ → ℕ → List ℕ → ℕ → List ℕ
 film_slice params width height samples row =
@@ -33,7 +37,6 @@ film_frame params width height samples = frame_of_slices (film_slices params wid
 
 -- the parameters that this project writes for a picture of this size
 pub record AreFilmOf (params : Parameters) (width height : ℕ) : Type 0 where
-  pub sound : AreSound params
   pub film : AreFilm params
   pub rows : params.rows ≡ film_rows width height
 

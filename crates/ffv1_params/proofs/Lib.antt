@@ -8,6 +8,7 @@ pub mod RowLaws
 pub mod RunLaws
 pub mod RunReadLaws
 pub mod SetLaws
+pub mod SoundLaws
 pub mod SymbolLaws
 pub mod TableLaws
 pub mod ValueLaws

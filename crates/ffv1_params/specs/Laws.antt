@@ -1,12 +1,16 @@
 -- What holds of records, whatever the parameters.
 use Rattle.std.specs.Prelude.{◌≡◌, ℕ, ◌+◌, ◌-◌, ◌*◌, ◌/◌, ◌≤◌, Ok}
-use Rattle.ffv1_params.specs.Parameters.{Parameters, AreFilm, IsPicture, film_lines, film_rows}
+use Rattle.ffv1_params.specs.Parameters.{Parameters, AreFilm, AreSound, IsPicture, film_lines, film_rows}
 use Rattle.ffv1_params.specs.Record.{record_of, film_fields}
 use Rattle.ffv1_params.specs.Reading.{record_read}
 
 -- the record of the writer's parameters is read as these
 abbrev pub WrittenRecordIsRead : Type 0
 WrittenRecordIsRead = (params : Parameters) → AreFilm params → record_read (record_of (film_fields params.bits params.rows)) ≡ Ok params
+
+-- the writer's parameters are sound
+abbrev pub FilmIsSound : Type 0
+FilmIsSound = (params : Parameters) → AreFilm params → AreSound params
 
 -- the writer's rows of slices: none has more lines than its bytes are counted for, and each has one at least
 pub record FilmRows : Type 0 where

@@ -1,7 +1,7 @@
 //! What holds of the definitions of records. Each function does nothing: its contract is the law, which a
 //! proof elsewhere can cite.
 
-ghost use Rattle.ffv1_params.specs.Laws.{WrittenRecordIsRead, FilmRows};
+ghost use Rattle.ffv1_params.specs.Laws.{FilmIsSound, FilmRows, WrittenRecordIsRead};
 
 use range_coder::{States, Table, laws};
 
@@ -26,4 +26,9 @@ pub fn n4()
 /// lines than its bytes are counted for.
 pub fn film_rows()
     ensures { FilmRows }
+{}
+
+/// The parameters that this project writes are sound, as all that are read.
+pub fn film_is_sound()
+    ensures { FilmIsSound }
 {}

@@ -55,7 +55,7 @@ unfolding low_bits
 length-low zero n = refl
 length-low (suc count) n = ap suc (length-low count n)
 
-later_len : (count number : ℕ) → length (later_bits count number) ≡ 8 * count
+pub later_len : (count number : ℕ) → length (later_bits count number) ≡ 8 * count
 unfolding later_bits
 later_len zero number = refl
 later_len (suc count) number =
@@ -76,7 +76,7 @@ size_len : (size : ℕ) (b : Bool) → length (if b then [] else low_bits 16 (si
 size_len size true = refl
 size_len size false = let n = length-low 16 (size - 1) in omega arith
 
-front_len : (count n : ℕ) (rest : List Bool) → length (low_bits count n ++ rest) ≡ count + length rest
+pub front_len : (count n : ℕ) (rest : List Bool) → length (low_bits count n ++ rest) ≡ count + length rest
 front_len count n rest = length-append (low_bits count n) rest ∙ ap (λ m. m + length rest) (length-low count n)
 
 pub header_len : (depth code size number : ℕ) → length (header_bits depth code size number) % 8 ≡ 0

@@ -1,6 +1,7 @@
 -- Lemmas on the parameters of a stream, on the samples of a block and on frames.
 pub mod BlockLaws
 pub mod EachLaws
+pub mod EncodeLaws
 pub mod FrameBack
 pub mod FrameLaws
 pub mod HeaderBack
@@ -8,9 +9,12 @@ pub mod InfoLaws
 pub mod InsideLaws
 pub mod KindLaws
 pub mod LaterLaws
+pub mod LightLaws
+pub mod PairLaws
 pub mod RoundLaws
 pub mod StereoBack
 pub mod StoredLaws
 pub mod SubframeBack
 pub mod ValueLaws
 pub mod WastedLaws
+pub mod WritingLaws

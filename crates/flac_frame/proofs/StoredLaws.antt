@@ -54,7 +54,7 @@ two_stored info left right two low high same hl hr =
     (record { fits = two_fit 9 bits (length left) (sides left right) right s r; counts = two; back = ap two_rows (side_right bits left right (sym same) tl tr); coded = two; small = omega arith })
     (record { fits = two_fit 10 bits (length left) (mids left right) (sides left right) m s; counts = two; back = ap two_rows (mid_side bits left right (sym same) tl tr); coded = two; small = omega arith })
 
-plain_depth : (code depth k : ℕ) → code < 8 → depth_of code depth k ≡ depth
+pub plain_depth : (code depth k : ℕ) → code < 8 → depth_of code depth k ≡ depth
 plain_depth code depth k lt =
     let a : (code == 8) ≡ false = other_number code 8 (code == 8) refl (λ e. omega arith) in
     let b : (code == 9) ≡ false = other_number code 9 (code == 9) refl (λ e. omega arith) in
@@ -76,7 +76,7 @@ each_stored info code size channels is count most low high same inside =
       small = omega arith;
     }
 
-depth_range : (bits : ℕ) (a b : Bool) → (bits == 8) ≡ a → (bits == 16) ≡ b → ((bits == 8) || (bits == 16) || (bits == 24)) ≡ true → (8 ≤ bits) × (bits ≤ 24)
+pub depth_range : (bits : ℕ) (a b : Bool) → (bits == 8) ≡ a → (bits == 16) ≡ b → ((bits == 8) || (bits == 16) || (bits == 24)) ≡ true → (8 ≤ bits) × (bits ≤ 24)
 depth_range bits true b ta tb t = let is : bits ≡ 8 = eqb-true bits 8 ta in (omega arith, omega arith)
 depth_range bits false true ta tb t = let is : bits ≡ 16 = eqb-true bits 16 tb in (omega arith, omega arith)
 depth_range bits false false ta tb t = let is : bits ≡ 24 = eqb-true bits 24 (rw (ta, tb) at t) in (omega arith, omega arith)

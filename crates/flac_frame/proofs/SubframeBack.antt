@@ -120,9 +120,9 @@ fixed_back known order parameter depth xs rest some inside wide few enough le =
 
 -- ---- linear subframes
 
-record IsPadded (set : LinearSet) : Type 0 where
-  enough : set.order ≤ length set.coefficients
-  is : take set.order set.coefficients ++ drop set.order (replicate 32 (pos 0)) ≡ set.coefficients
+pub record IsPadded (set : LinearSet) : Type 0 where
+  pub enough : set.order ≤ length set.coefficients
+  pub is : take set.order set.coefficients ++ drop set.order (replicate 32 (pos 0)) ≡ set.coefficients
 
 set_back : Known → (set : LinearSet) (rest : List Bool) → IsLinearSet set → IsPadded set → set_at set.order (set_bits set ++ rest) ≡ Ok (set, rest)
 unfolding set_at set_bits
@@ -153,7 +153,7 @@ row_padded row =
       is = ap (λ (xs : List ℤ). xs ++ drop (length front) (replicate 32 (pos 0))) (take-append_seam front zeros) ∙ ap (λ (xs : List ℤ). front ++ xs) (drop-replicate (length front) 32 (pos 0));
     }
 
-bank_padded : (number : ℕ) → IsPadded (bank_set number)
+pub bank_padded : (number : ℕ) → IsPadded (bank_set number)
 unfolding bank_set
 bank_padded number = row_padded (slice_index_or bank_rows (number - 1) (record { shift = 0; coefficients = [] }))
 

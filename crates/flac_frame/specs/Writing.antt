@@ -6,7 +6,12 @@ use Rattle.cook_bits.specs.Bits.{low_bits, bytes_of}
 use Rattle.cook_bits.specs.Crc.{crc8_of, crc16_of}
 use Rattle.flac_predict.specs.Least.{least_of}
 use Rattle.flac_predict.specs.Choice.{best_candidate, candidate_bits}
+use Rattle.std.specs.Prelude.{◌<◌}
+use Rattle.std.specs.List.{flat_map}
+use Rattle.flac_predict.specs.Samples.{AreInside}
+use Rattle.flac_frame.specs.Samples.{BlockValue, channel_of}
 use Rattle.flac_frame.specs.declared.stream_info.StreamInfo.{StreamInfo}
+use Rattle.flac_frame.specs.declared.encoding.channels.Mode.{Mode}
 use Rattle.flac_frame.specs.Frame.{depth_of}
 use Rattle.flac_frame.specs.Spelling.{subframe_bits}
 
@@ -126,3 +131,24 @@ flac_of channels info number =
     let subframes = subframes_bits code info.bits 0 (stored_by code channels) in
     let body = head_of info.bits code (size_of channels) number ++ bytes_of (padded subframes) in
     body ++ bytes_high_first 2 (crc16_of body)
+
+-- a code of two channels and the bits under it, unless the next has fewer
+abbrev pub lesser : Mode → Mode → Mode
+lesser first next = if nat_lt next.bits first.bits then next else first
+
+-- the code of the fewest bits, given those of left, right, side and mid
+unfoldable pub code_by : ℕ → ℕ → ℕ → ℕ → ℕ
+code_by left right side mid =
+    let each : Mode = record { code = 1; bits = left + right } in
+    let left_side : Mode = record { code = 8; bits = left + side } in
+    let side_right : Mode = record { code = 9; bits = side + right } in
+    let mid_side : Mode = record { code = 10; bits = mid + side } in
+    (lesser each (lesser left_side (lesser side_right mid_side))).code
+
+-- channels that are stored each by itself
+unfoldable pub each_bits : ℕ → List (List ℤ) → List Bool
+each_bits bits = flat_map (best_subframe bits)
+
+-- each channel of a block is inside its bits
+pub record AreAllInside (bits : ℕ) (block : BlockValue) : Type 0 where
+  pub each : (k : ℕ) → k < block.channels → AreInside bits (channel_of block k)

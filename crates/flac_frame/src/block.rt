@@ -2,7 +2,7 @@
 
 ghost use Rattle.std.specs.Prelude.{◌≡◌, ◌<◌, ◌≤◌, ◌*◌, pos, replicate, IfOk};
 ghost use Rattle.std.specs.Borrow.{sem};
-ghost use Rattle.flac_frame.specs.Samples.{channel_of, channels_of};
+ghost use Rattle.flac_frame.specs.Samples.{IsBlock, channel_of, channels_of};
 ghost use Rattle.flac_frame.specs.Reading.{Reads};
 ghost use Rattle.flac_frame.specs.Frame.{samples_at};
 ghost use Rattle.flac_frame.specs.Block.{LendsChannel};
@@ -72,7 +72,8 @@ impl Block {
     #[tactic(auto, unfolding(crate::specs::Samples::channel_of, crate::specs::Samples::stretch))]
     pub fn channel(&self, k: u8) -> &[i32]
         requires { k < self.now.channels }
-        ensures { result.now ≡ channel_of self.now k }
+        ensures samples { result.now ≡ channel_of self.now k }
+        ensures len { length result.now ≡ self.now.len }
     {
         let start = k as usize * self.capacity as usize;
         &self.samples.as_slice()[start..start + self.len as usize]
@@ -88,6 +89,20 @@ impl Block {
         let start = k as usize * self.capacity as usize;
         let end = start + self.len as usize;
         self.samples.slice_mut(start..end)
+    }
+
+    // Its samples are those that its numbers say.
+    pub(crate) fn is_whole(&self)
+        ensures { IsBlock self.now }
+    {
+        let _len = self.len;
+    }
+
+    /// How many channels there are.
+    pub(crate) fn channels(&self) -> u8
+        ensures { result ≡ self.now.channels }
+    {
+        self.channels
     }
 
     /// How many samples of each channel there is room for.

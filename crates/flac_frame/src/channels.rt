@@ -9,7 +9,7 @@ use crate::FlacWhy;
 use crate::subframe::subframe;
 use cook_bits::BitReader;
 
-fn depth_of(code: u32, bits: u32, k: usize) -> u32
+pub(crate) fn depth_of(code: u32, bits: u32, k: usize) -> u32
     requires { bits ≤ 24 }
     ensures depth { result ≡ whole.depth_of code bits k }
     ensures low { bits ≤ result }

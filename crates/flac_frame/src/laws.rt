@@ -2,7 +2,7 @@
 //! law, which a proof elsewhere can cite.
 
 ghost use Rattle.flac_frame.specs.Laws.{ChannelIsWritten, InfoIsRead};
-ghost use Rattle.flac_frame.specs.RoundTrip.{FrameIsRead};
+ghost use Rattle.flac_frame.specs.RoundTrip.{BlockIsRead, FrameIsRead, FrameIsLight};
 
 use cook_bits::laws as bits;
 use flac_predict::laws as prediction;
@@ -32,4 +32,20 @@ pub fn n7()
     prediction::residuals_are_small();
     prediction::choice_is_light();
     info_is_read();
+}
+
+/// The frame that `encode` answers for a block is read as the samples of the block.
+pub fn block_is_read()
+    ensures { BlockIsRead }
+{
+    n7();
+}
+
+/// A frame that is written has at most 98,400 bytes.
+pub fn frames_are_light()
+    ensures { FrameIsLight }
+{
+    prediction::counts();
+    prediction::residuals_are_small();
+    prediction::choice_is_light();
 }

@@ -3,6 +3,7 @@
 
 mod block;
 mod channels;
+mod encoding;
 mod error;
 mod frame;
 mod header;
@@ -15,6 +16,7 @@ mod stream_info;
 mod subframe;
 
 pub use block::Block;
+pub use encoding::encode;
 pub use error::FlacWhy;
 pub use frame::decode;
 pub use stream_info::{InfoBad, StreamInfo};

@@ -9,6 +9,7 @@ returns c params width height samples are is =
       some = c.slices_begin.ensures.some;
       few = c.slices_begin.ensures.few;
       rows = c.film_rows.ensures;
+      sound = c.film_is_sound.ensures;
       pixels = c.tiles_hold_their_pixels.ensures;
       parity = c.parity_leaves_zero.ensures.parity;
     }) params width height samples are is
