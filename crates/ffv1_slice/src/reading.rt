@@ -55,7 +55,7 @@ fn decode_samples(
         let around = around_in(above2, above, line, x);
         let context = context_of(values, flat, around);
         let slot = first + 32 * context.unsigned_abs();
-        let value = decoder.get_symbol_at(table, states, slot as usize, true)?;
+        let value = decoder.get_signed_at(table, states, slot as usize)?;
         line[x + 2] = restored_of(half, context < 0, predicted(around), value);
     }
     line[width + 2] = line[width + 1];

@@ -1,10 +1,12 @@
 -- What the coding of a tile takes and answers.
-use Rattle.std.specs.Prelude.{◌≡◌, ℕ, ◌<◌, ◌==◌, List}
+use Rattle.std.specs.Prelude.{◌≡◌, ℕ, ◌<◌, ◌==◌, List, length, map, slice_index_or, Result, Ok, IfOk}
+use Rattle.cook_bits.specs.declared.memory.NoMemory.{NoMemory}
 use Rattle.range_coder.specs.Interval.{coded}
 use Rattle.ffv1_params.specs.Parameters.{Parameters, AreSound}
 use Rattle.ffv1_slice.specs.Slice.{IsTile, slice_decisions}
 use Rattle.ffv1_frame.specs.declared.cells.Grid.{Grid}
 use Rattle.ffv1_frame.specs.Grid.{IsGridOf, tile_of}
+use Rattle.ffv1_frame.specs.Parts.{slice_at}
 use Rattle.ffv1_frame.specs.Written.{film_head}
 
 -- the grid has one column and a row with the number, of which the tile has the samples
@@ -19,3 +21,14 @@ pub record TakesRow (params : Parameters) (grid : Grid) (number : ℕ) (tile : L
 abbrev pub coded_row : Parameters → Grid → ℕ → List ℕ → List ℕ
 coded_row params grid number tile =
     coded (slice_decisions params (film_head number) (tile_of grid (film_head number)).width (tile_of grid (film_head number)).height (number == 0) tile)
+
+-- ---- all answers
+
+-- each answer is the slice with its number, unless there was no memory for it
+pub record AreCoded (slices : List (List ℕ)) (answers : List (Result (List ℕ) NoMemory)) : Type 0 where
+  pub count : length answers ≡ length slices
+  pub each : (k : ℕ) (d : Result (List ℕ) NoMemory) → k < length slices → IfOk (slice_index_or answers k d) (λ bytes. bytes ≡ slice_at slices k)
+
+-- the answers are these slices, with no refusal among them
+abbrev pub AreSlices : List (Result (List ℕ) NoMemory) → List (List ℕ) → Type 0
+AreSlices answers slices = answers ≡ map (λ slice. Ok slice) slices

@@ -23,8 +23,8 @@ pub struct EncodeTask<'a> {
 #[derive(Clone, Copy, Debug, PartialEq, Eq)]
 pub struct NoScratch;
 
-// The head of the cell in a row of the one column.
-fn head_of_row(row: u32) -> SliceHead
+/// The head of the cell in a row of the one column.
+pub(crate) fn head_of_row(row: u32) -> SliceHead
     ensures { result ≡ film_head row }
 {
     SliceHead {

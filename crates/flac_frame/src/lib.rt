@@ -1,4 +1,4 @@
-//! FLAC (RFC 9639): the parameters of a stream, written and read, and frames, read by the whole grammar.
+//! FLAC (RFC 9639): the parameters of a stream, and frames, both written and read.
 #![tactic(auto)]
 
 mod block;

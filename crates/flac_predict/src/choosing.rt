@@ -9,7 +9,8 @@ ghost use Rattle.flac_predict.specs.Rice.{best_parameter};
 ghost use Rattle.flac_predict.specs.Choice.{best_candidate, candidate_bits, IsCandidate, all_are, constant_offer, fixed_offers, linear_offers};
 ghost use Rattle.flac_predict.specs.Weighing.{Holds, IsWeighed, lighter_of};
 
-use crate::{LinearSet, bank, residual_fixed, residual_linear, rice_bits};
+use crate::linear::residual_bank;
+use crate::{LinearSet, bank, residual_fixed, rice_bits};
 
 /// How a channel's samples are put into a subframe (RFC 9639, section 9.2).
 #[derive(Clone, Copy, Debug, Drop, PartialEq, Eq)]
@@ -231,7 +232,7 @@ fn linear(number: u32, set: &LinearSet, samples: &[i32], bits: u32, work: &mut [
     ensures bits { IsWeighed bits samples.now result }
 {
     let residuals = &mut work[..samples.len() - set.order as usize];
-    residual_linear(set, samples, residuals);
+    residual_bank(number, samples, residuals);
     let (parameter, rice) = rice_bits(residuals);
     Weighed {
         choice: Choice::Linear {

@@ -3,14 +3,47 @@
 ghost use Rattle.std.specs.Prelude.{◌≡◌, ◌+◌, ◌≤◌, ◌<◌, ◌+ℤ◌, ◌-ℤ◌, ◌*ℤ◌, IsTrue, length, take, drop};
 ghost use Rattle.flac_predict.specs.Samples.{all_inside, AreInside, IsInside};
 ghost use Rattle.flac_predict.specs.Linear.{IsLinearSet, weighted, predicted, linear_residuals, linear_restored};
-ghost use Rattle.flac_predict.specs.Bank.{IsOfBank};
+ghost use Rattle.flac_predict.specs.Bank.{IsOfBank, bank_set};
 
-use crate::LinearSet;
 use crate::inside::is_inside;
+use crate::{LinearSet, bank};
 
 /// Writes the residuals of samples from -2^24 to 2^24 - 1 under a set of the bank: one for each sample behind the first
 /// `set.order`, the warm-up. It takes no memory.
 pub fn residual_linear(set: &LinearSet, samples: &[i32], out: &mut [i32])
+    requires set { IsOfBank set.now }
+    requires samples { AreInside 25 samples.now }
+    requires room { length out.old + set.now.order ≡ length samples.now }
+    ensures residuals { out.new ≡ linear_residuals set.now samples.now }
+    ensures inside { AreInside 29 out.new }
+{
+    residuals_of(set, samples, out);
+}
+
+// The same for the set of a number. Each set stands in a loop of its own, in which its coefficients are constants.
+#[inline(never)]
+pub(crate) fn residual_bank(number: u32, samples: &[i32], out: &mut [i32])
+    requires low { 1 ≤ number }
+    requires high { number ≤ 8 }
+    requires samples { AreInside 25 samples.now }
+    requires room { length out.old + (bank_set number).order ≡ length samples.now }
+    ensures residuals { out.new ≡ linear_residuals (bank_set number) samples.now }
+    ensures inside { AreInside 29 out.new }
+{
+    match number {
+        1 => residuals_of(&bank(1), samples, out),
+        2 => residuals_of(&bank(2), samples, out),
+        3 => residuals_of(&bank(3), samples, out),
+        4 => residuals_of(&bank(4), samples, out),
+        5 => residuals_of(&bank(5), samples, out),
+        6 => residuals_of(&bank(6), samples, out),
+        7 => residuals_of(&bank(7), samples, out),
+        _ => residuals_of(&bank(8), samples, out),
+    }
+}
+
+#[inline(always)]
+fn residuals_of(set: &LinearSet, samples: &[i32], out: &mut [i32])
     requires set { IsOfBank set.now }
     requires samples { AreInside 25 samples.now }
     requires room { length out.old + set.now.order ≡ length samples.now }

@@ -30,7 +30,11 @@ fn climbed(residuals: &[i32], parameter: u32) -> (u32, u64)
     ensures up { result.0 < 30 → residual_bits result.0 residuals.now ≤ residual_bits (suc result.0) residuals.now }
 {
     let mut bits = bits_under(residuals, parameter);
+    let count = residuals.len() as u64;
     for at in parameter..30 {
+        if bits <= 10 + count * (at as u64 + 2) {
+            return (at, bits);
+        }
         let next = bits_under(residuals, at + 1);
         if bits <= next {
             return (at, bits);
@@ -55,7 +59,11 @@ fn descended(residuals: &[i32], parameter: u32, bits: u64) -> (u32, u64)
 {
     let mut at = parameter;
     let mut bits = bits;
+    let count = residuals.len() as u64;
     while at > 0 {
+        if 12 + count * (at as u64 + 2) < bits {
+            return (at, bits);
+        }
         let before = bits_under(residuals, at - 1);
         if bits < before {
             return (at, bits);
@@ -97,7 +105,7 @@ fn field_bits(parameter: u32) -> u64
     if parameter <= 14 { 4 } else { 5 }
 }
 
-// The sum of the quotients.
+// The sum of the quotients. What each holds of 2^16 and what is left of it are added apart, so that sums of 32 bits do.
 fn shifted_sum(residuals: &[i32], parameter: u32) -> u64
     requires count { length residuals.now ≤ 4096 }
     requires codable { AreCodable residuals.now }
@@ -105,11 +113,14 @@ fn shifted_sum(residuals: &[i32], parameter: u32) -> u64
     ensures sum { result ≡ sum_by (quotient parameter) residuals.now }
     ensures small { result ≤ 4294967296 * length residuals.now }
 {
-    let mut sum = 0;
+    let mut low = 0u32;
+    let mut high = 0u32;
     for residual in residuals {
-        sum += (zigzag_of(*residual) >> parameter) as u64;
+        let quotient = zigzag_of(*residual) >> parameter;
+        low += quotient % 65536;
+        high += quotient / 65536;
     }
-    sum
+    high as u64 * 65536 + low as u64
 }
 
 // A residual as a number that isn't negative.
@@ -117,9 +128,10 @@ fn shifted_sum(residuals: &[i32], parameter: u32) -> u64
 fn zigzag_of(residual: i32) -> u32
     ensures { result ≡ zigzag residual }
 {
+    let twice = 2 * residual as i64;
     if residual < 0 {
-        (-1 - residual) as u32 * 2 + 1
+        (-1 - twice) as u32
     } else {
-        residual as u32 * 2
+        twice as u32
     }
 }

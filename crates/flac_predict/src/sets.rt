@@ -19,6 +19,7 @@ ghost use Rattle.flac_predict.specs.Linear.{IsLinearSet};
 ghost use Rattle.flac_predict.specs.Bank.{set_of, bank_set};
 
 /// The set of a number from 1 to 8, which the writer tries. It takes no memory.
+#[inline(always)]
 pub fn bank(number: u32) -> LinearSet
     requires low { 1 ≤ number }
     requires high { number ≤ 8 }
@@ -28,6 +29,7 @@ pub fn bank(number: u32) -> LinearSet
     numbered(number)
 }
 
+#[inline(always)]
 fn numbered(number: u32) -> LinearSet
     requires low { 1 ≤ number }
     requires high { number ≤ 8 }
@@ -46,6 +48,7 @@ fn numbered(number: u32) -> LinearSet
 }
 
 // A set with these coefficients, of 8 bits.
+#[inline(always)]
 fn set_of(shift: u32, first: &[i32]) -> LinearSet
     requires { length first.now ≤ 32 }
     ensures { result ≡ set_of (record { shift = shift; coefficients = first.now }) }

@@ -96,6 +96,48 @@ zero_read before r after state value same s wide is below goes =
     let goes' : GoesOn r.offset (r.range - part_of_one r.range state) before after = subst (λ (n : ℕ). GoesOn r.offset (r.range - r.range * n / 256) before after) is goes in
     reads_part before r after state false _ _ same s wide (sym (lt-leb (r.range - part_of_one r.range state) r.offset below')) refl refl goes'
 
+-- the same of a reader that keeps the distance to the end of its range, which the number has below it
+above_from : (below part range : ℕ) → below ≤ part → part ≤ range → range - part ≤ range - below
+above_from below part range is within = omega arith
+
+one_apart : (below part range : ℕ) → below ≤ part → part ≤ range → range - below - (range - part) ≡ part - below
+one_apart below part range is within = omega arith
+
+zero_apart : (below part range : ℕ) → part < below → below ≤ range → range - below ≡ range - part - (below - part)
+zero_apart below part range is within = omega arith
+
+below_to : (below part range : ℕ) → part < below → below ≤ range → range - below < range - part
+below_to below part range is within = omega arith
+
+pub one_below : (before after : Reader) (below range : ℕ) (rest : List ℕ) (state value : ℕ) → reader (range - below) range rest ≡ before → IsState state → 256 ≤ range → value ≡ state → below ≤ range * value / 256 → GoesOn (range * value / 256 - below) (range * value / 256) before after → ReadsOn before after (record { state = state; bit = true } ∷ [])
+one_below before after below range rest state value same s wide is within goes =
+    let two = two_parts range value wide (subst IsState (sym is) s) in
+    let less : range * value / 256 < range = two.less in
+    let inside : range * value / 256 ≤ range = omega arith in
+    one_read before (reader (range - below) range rest) after state value same s wide is (above_from below (range * value / 256) range within inside) (subst (λ (n : ℕ). GoesOn n (range * value / 256) before after) (sym (one_apart below (range * value / 256) range within inside)) goes)
+
+pub zero_below : (before after : Reader) (below range : ℕ) (rest : List ℕ) (state value : ℕ) → reader (range - below) range rest ≡ before → IsState state → 256 ≤ range → below ≤ range → value ≡ state → range * value / 256 < below → GoesOn (range - range * value / 256 - (below - range * value / 256)) (range - range * value / 256) before after → ReadsOn before after (record { state = state; bit = false } ∷ [])
+zero_below before after below range rest state value same s wide inside is within goes =
+    zero_read before (reader (range - below) range rest) after state value same s wide is (below_to below (range * value / 256) range within inside) (subst (λ (n : ℕ). GoesOn n (range - range * value / 256) before after) (sym (zero_apart below (range * value / 256) range within inside)) goes)
+
+pub bit_below : (before after : Reader) (below range : ℕ) (rest : List ℕ) (state : ℕ) (bit : Bool) (below' range' : ℕ) → reader (range - below) range rest ≡ before → IsState state → 256 ≤ range → below ≤ range → bit ≡ leb below (part_of_one range state) → below' ≡ cond bit below (below - part_of_one range state) → range' ≡ cond bit (part_of_one range state) (range - part_of_one range state) → GoesOn (range' - below') range' before after → ReadsOn before after (record { state = state; bit = bit } ∷ [])
+bit_below before after below range rest state true below' range' same s wide inside is is_below is_range goes =
+    let within : below ≤ part_of_one range state = leb-true below (part_of_one range state) (sym is) in
+    let goes' : GoesOn (part_of_one range state - below) (part_of_one range state) before after = rw (is_below, is_range) at goes in
+    one_below before after below range rest state state same s wide refl within goes'
+bit_below before after below range rest state false below' range' same s wide inside is is_below is_range goes =
+    let within : part_of_one range state < below = leb-false below (part_of_one range state) (sym is) in
+    let goes' : GoesOn (range - part_of_one range state - (below - part_of_one range state)) (range - part_of_one range state) before after = rw (is_below, is_range) at goes in
+    zero_below before after below range rest state state same s wide inside refl within goes'
+
+-- a range that is renewed, with the distance
+byte_apart : (below range byte : ℕ) → 1 ≤ below → below ≤ range → byte < 256 → (range - below) * 256 + byte ≡ range * 256 - (below * 256 - byte)
+byte_apart below range byte some inside fits = omega arith
+
+pub below_by_byte : (before : Reader) (offset' old : ℕ) (rest : List ℕ) (below range byte : ℕ) (rest' : List ℕ) → reader offset' old rest ≡ before → 1 ≤ below → below ≤ range → range < 256 → byte < 256 → byte ≡ slice_index rest 0 → ((k : ℕ) → slice_index rest' k ≡ slice_index rest (k + 1)) → GoesOn (range - below) range before (reader (range * 256 - (below * 256 - byte)) (range * 256) rest')
+below_by_byte before offset' old rest below range byte rest' same some inside small fits first follows =
+    subst (λ (n : ℕ). GoesOn (range - below) range before (reader n (range * 256) rest')) (byte_apart below range byte some inside fits) (goes_by_byte before (reader offset' old rest) (range - below) range byte rest' same small fits first follows)
+
 -- the first two bytes
 pub begins_with : (bytes rest rest' : List ℕ) (high low : ℕ) → ((k : ℕ) → slice_index bytes k < 256) → high ≡ slice_index bytes 0 → ((k : ℕ) → slice_index rest k ≡ slice_index bytes (k + 1)) → low ≡ slice_index rest 0 → ((k : ℕ) → slice_index rest' k ≡ slice_index rest (k + 1)) → high ≢ 255 → Begins (reader (high * 256 + low) 65280 rest') bytes
 unfolding whole first_bytes
@@ -112,3 +154,19 @@ begins_with bytes rest rest' high low are is_high is_rest is_low is_rest' not_la
         rest = λ k. is_rest' k ∙ is_rest (k + 1) ∙ (let e : k + 1 + 1 ≡ 0 + 2 + k = omega arith in ap (slice_index bytes) e);
       };
     }
+
+from_end : (n range : ℕ) → n ≤ range → n ≡ range - (range - n)
+from_end n range within = omega arith
+
+pub begins_below : (bytes rest rest' : List ℕ) (high low whole : ℕ) → whole ≡ 65280 → ((k : ℕ) → slice_index bytes k < 256) → high ≡ slice_index bytes 0 → ((k : ℕ) → slice_index rest k ≡ slice_index bytes (k + 1)) → low ≡ slice_index rest 0 → ((k : ℕ) → slice_index rest' k ≡ slice_index rest (k + 1)) → high ≢ 255 → high * 256 + low ≤ whole → Begins (reader (whole - (whole - (high * 256 + low))) whole rest') bytes
+begins_below bytes rest rest' high low whole is are is_high is_rest is_low is_rest' not_last within =
+    rw (← from_end (high * 256 + low) whole within, is) (begins_with bytes rest rest' high low are is_high is_rest is_low is_rest' not_last)
+
+pub first_fits : (high byte : ℕ) → high ≡ byte → byte < 256 → byte ≢ 255 → high < 255
+first_fits high byte is fits not_last = omega arith
+
+pub second_fits : (low byte : ℕ) → low ≡ byte → byte < 256 → low < 256
+second_fits low byte is fits = omega arith
+
+pub starts_within : (high low : ℕ) → high < 255 → low < 256 → high * 256 + low ≤ 65280
+starts_within high low first second = omega arith

@@ -1,14 +1,15 @@
 -- The parts of a symbol, put and got choice by choice.
-use Rattle.std.proofs.Common.{◌≡◌, ℕ, zero, suc, ◌+◌, ◌-◌, ◌*◌, ◌^◌, ◌<◌, ◌≤◌, List, [], ◌∷◌, ◌++◌, Bool, true, false, refl, sym, subst, arith, append_assoc}
+use Rattle.std.proofs.Common.{◌≡◌, ℕ, zero, suc, ◌+◌, ◌-◌, ◌*◌, ◌^◌, ◌<◌, ◌≤◌, List, [], ◌∷◌, ◌++◌, Bool, true, false, refl, sym, ◌∙◌, subst, arith, append_assoc, to_z, of_z}
 use Rattle.range_coder.specs.Table.{AreLive}
 use Rattle.range_coder.specs.Reading.{Reader}
 use Rattle.range_coder.specs.Encoding.{Encoding}
 use Rattle.range_coder.specs.Choices.{Choice}
 use Rattle.range_coder.specs.Coding.{Puts, PutsFront, Gets}
-use Rattle.range_coder.specs.Symbol.{choice, exponent_of, exponent_slot, exponent_choices, ones, low_bits, sign_choices, number_choices, symbol_choices, overlong_choices}
+use Rattle.range_coder.specs.Symbol.{choice, exponent_of, exponent_slot, exponent_choices, nonzero_choices, rest_choices, ones, low_bits, sign_choices, number_choices, symbol_choices, overlong_choices}
 use Rattle.range_coder.proofs.Exponents.{exponent_is, symbol_of_number, symbol_of_zero}
-use Rattle.std.specs.Prelude.{ℤ, pos, unsigned_abs}
-use Rattle.std.specs.Int.{is_negative}
+use Rattle.std.specs.Prelude.{ℤ, pos, unsigned_abs, FitsSigned}
+use Rattle.std.specs.Int.{w32, is_negative}
+use Rattle.std.proofs.lemmas.Int.{to_z-of_z}
 use Rattle.std.proofs.Math.Nat.{one-le-pow}
 use Rattle.range_coder.proofs.Codings.{puts_nil, puts_more, puts_then_front, front_of_more, gets_nil, gets_more}
 
@@ -176,3 +177,34 @@ value_got table r0 s0 r1 s1 r2 s2 r3 s3 e signed bit value clear low high within
     let all : Gets table r0 s0 r3 s3 (some ++ exponent_choices e ++ (low_bits e (unsigned_abs value) ++ sign_choices signed e (is_negative value))) = gets_more table r0 s0 r2 s2 r3 s3 (some ++ exponent_choices e) (low_bits e (unsigned_abs value) ++ sign_choices signed e (is_negative value)) first c in
     let number : Gets table r0 s0 r3 s3 (number_choices e (unsigned_abs value) (is_negative value) signed) = subst (λ (cs : List Choice). Gets table r0 s0 r3 s3 cs) (sym (append_assoc (some ++ exponent_choices e) (low_bits e (unsigned_abs value)) (sign_choices signed e (is_negative value)))) all in
     symbol_got table r0 s0 r3 s3 e (unsigned_abs value) value (is_negative value) signed refl refl low high within number
+
+-- a number behind the choice that it isn't 0, and with it
+pub nonzero_got : (table : List ℕ) (r0 : Reader) (s0 : List ℕ) (r1 : Reader) (s1 : List ℕ) (r2 : Reader) (s2 : List ℕ) (e : ℕ) (signed : Bool) (value : ℤ) → 2 ^ e ≤ unsigned_abs value → unsigned_abs value < 2 * 2 ^ e → e ≤ 30 → Gets table r0 s0 r1 s1 (exponent_choices e) → Gets table r1 s1 r2 s2 (rest_choices e value signed) → Gets table r0 s0 r2 s2 (nonzero_choices value signed)
+nonzero_got table r0 s0 r1 s1 r2 s2 e signed value low high within a b =
+    let exponent = exponent_is (unsigned_abs value) e low high (omega arith) in
+    subst (λ (n : ℕ). Gets table r0 s0 r2 s2 (exponent_choices n ++ rest_choices n value signed)) exponent (gets_more table r0 s0 r1 s1 r2 s2 (exponent_choices e) (rest_choices e value signed) a b)
+
+number_joined : (e magnitude : ℕ) (negative signed : Bool) → some ++ (exponent_choices e ++ (low_bits e magnitude ++ sign_choices signed e negative)) ≡ number_choices e magnitude negative signed
+number_joined e magnitude negative signed =
+    sym (append_assoc some (exponent_choices e) (low_bits e magnitude ++ sign_choices signed e negative)) ∙ sym (append_assoc (some ++ exponent_choices e) (low_bits e magnitude) (sign_choices signed e negative))
+
+pub symbol_got_behind : (table : List ℕ) (r0 : Reader) (s0 : List ℕ) (r1 : Reader) (s1 : List ℕ) (r2 : Reader) (s2 : List ℕ) (signed bit : Bool) (value : ℤ) → bit ≡ false → 0 < unsigned_abs value → Gets table r0 s0 r1 s1 (choice 0 bit ∷ []) → Gets table r1 s1 r2 s2 (nonzero_choices value signed) → Gets table r0 s0 r2 s2 (symbol_choices value signed)
+symbol_got_behind table r0 s0 r1 s1 r2 s2 signed bit value clear above a b =
+    let all : Gets table r0 s0 r2 s2 (some ++ nonzero_choices value signed) = gets_more table r0 s0 r1 s1 r2 s2 some (nonzero_choices value signed) (some_got table r0 s0 r1 s1 bit clear a) b in
+    let number : Gets table r0 s0 r2 s2 (number_choices (exponent_of (unsigned_abs value)) (unsigned_abs value) (is_negative value) signed) = subst (λ (cs : List Choice). Gets table r0 s0 r2 s2 cs) (number_joined (exponent_of (unsigned_abs value)) (unsigned_abs value) (is_negative value) signed) all in
+    let same = symbol_of_number value signed (is_negative value) (unsigned_abs value) refl refl above in
+    rw same number
+
+-- a magnitude of at least a power of two isn't 0
+pub some_above : (e magnitude : ℕ) → 2 ^ e ≤ magnitude → 0 < magnitude
+some_above e magnitude low = let p = one-le-pow e 2 (omega arith) in omega arith
+
+-- a number whose exponent was got one by one
+pub usual_got : (table : List ℕ) (r0 : Reader) (s0 : List ℕ) (r1 : Reader) (s1 : List ℕ) (r2 : Reader) (s2 : List ℕ) (r3 : Reader) (s3 : List ℕ) (k : ℕ) (bit : Bool) (value : ℤ) → HasGot table r0 s0 r1 s1 (ones k) → k ≤ 30 → bit ≡ false → Gets table r1 s1 r2 s2 (choice (exponent_slot k) bit ∷ []) → 2 ^ k ≤ unsigned_abs value → unsigned_abs value < 2 * 2 ^ k → FitsSigned w32 value → Gets table r2 s2 r3 s3 (rest_choices k value true) → Gets table r0 s0 r3 s3 (nonzero_choices (to_z w32 (of_z w32 value)) true)
+usual_got table r0 s0 r1 s1 r2 s2 r3 s3 k bit value h within clear a low high fits b =
+    let same : to_z w32 (of_z w32 value) ≡ value = to_z-of_z w32 value fits in
+    let exponent = exponent_got table r0 s0 r1 s1 r2 s2 k (exponent_slot k) bit h refl clear a in
+    rw same (nonzero_got table r0 s0 r2 s2 r3 s3 k true value low high within exponent b)
+
+pub all_ones_got : (table : List ℕ) (r0 : Reader) (s0 : List ℕ) (r1 : Reader) (s1 : List ℕ) (k most : ℕ) → k ≡ most → HasGot table r0 s0 r1 s1 (ones k) → Gets table r0 s0 r1 s1 (ones most)
+all_ones_got table r0 s0 r1 s1 k most is h = subst (λ (n : ℕ). Gets table r0 s0 r1 s1 (ones n)) is h.gets

@@ -51,6 +51,11 @@ sign_choices false exponent negative = []
 abbrev pub rest_choices : ℕ → ℤ → Bool → List Choice
 rest_choices exponent value signed = low_bits exponent (unsigned_abs value) ++ sign_choices signed exponent (is_negative value)
 
+-- what stands behind the choice that a number isn't 0
+abbrev pub nonzero_choices : ℤ → Bool → List Choice
+nonzero_choices value signed =
+    exponent_choices (exponent_of (unsigned_abs value)) ++ rest_choices (exponent_of (unsigned_abs value)) value signed
+
 -- a number that isn't 0: its exponent, the bits below its highest one, its sign
 abbrev pub number_choices : ℕ → ℕ → Bool → Bool → List Choice
 number_choices exponent magnitude negative signed =

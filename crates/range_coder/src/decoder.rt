@@ -1,4 +1,4 @@
-ghost use Rattle.std.specs.Prelude.{◌≡◌, ℕ, ◌+◌, ◌-◌, ◌<◌, ◌≤◌, ◌↔◌, [], ◌∷◌, nat_le, if◌then◌else◌, slice_index, length, IsNone, IfSome, IfOk, OnErr};
+ghost use Rattle.std.specs.Prelude.{◌≡◌, ℕ, true, ◌+◌, ◌-◌, ◌<◌, ◌≤◌, ◌↔◌, [], ◌∷◌, nat_le, if◌then◌else◌, slice_index, length, IsNone, IfSome, IfOk, OnErr};
 ghost use Rattle.range_coder.specs.Interval.{part_of_one};
 ghost use Rattle.range_coder.specs.Reading.{Begins, ReadsOn, GoesOn};
 ghost use Rattle.range_coder.specs.Table.{IsState, IsLive, IsClosed, AreLive, next_state};
@@ -6,27 +6,32 @@ ghost use Rattle.range_coder.specs.Choices.{moved};
 ghost use Rattle.range_coder.specs.Coding.{Gets};
 ghost use Rattle.range_coder.specs.Symbol.{choice, IsCodable, symbol_choices, overlong_choices};
 
-use crate::getting::get_value;
+use crate::getting::{get_signed, get_value};
 use crate::{BadSymbol, Table};
 use std::marker::Model;
 
+/// The range before any bit.
+const WHOLE: u32 = 65280;
+
 /// Reads bits from coded bytes (RFC 9043, section 3.8.1.1). Past the end of the bytes it reads zeros.
+///
+/// The number that the bytes name is kept by its distance to the end of the range, which bit 1 doesn't change.
 #[derive(Drop)]
 pub struct Decoder<'a> {
     rest: &'a [u8],
-    offset: u32,
+    below: u32,
     range: u32,
 }
 
 impl<'a> Model for Decoder<'a> {
-    ghost use Rattle.std.specs.Prelude.{◌<◌, ◌≤◌};
+    ghost use Rattle.std.specs.Prelude.{◌-◌, ◌≤◌};
     ghost use Rattle.range_coder.specs.Reading.{Reader};
 
     ghost Value = { Reader };
 
-    ghost view = { λ d. record { offset = d.offset; range = d.range; rest = d.rest.now } };
+    ghost view = { λ d. record { offset = d.range - d.below; range = d.range; rest = d.rest.now } };
 
-    ghost invariant = { λ d. (d.offset < d.range) × (256 ≤ d.range) × (d.range ≤ 65280) };
+    ghost invariant = { λ d. (1 ≤ d.below) × (d.below ≤ d.range) × (256 ≤ d.range) × (d.range ≤ 65280) };
 }
 
 impl<'a> Decoder<'a> {
@@ -42,8 +47,8 @@ impl<'a> Decoder<'a> {
         }
         Some(Decoder {
             rest,
-            offset: u32::from(high) * 256 + u32::from(low),
-            range: 65280,
+            below: WHOLE - (u32::from(high) * 256 + u32::from(low)),
+            range: WHOLE,
         })
     }
 
@@ -55,7 +60,7 @@ impl<'a> Decoder<'a> {
     {
         Decoder {
             rest: self.rest,
-            offset: self.offset,
+            below: self.below,
             range: self.range,
         }
     }
@@ -69,9 +74,9 @@ impl<'a> Decoder<'a> {
         ensures live { IsLive table.now state.new }
         ensures closed { IsClosed table.now }
     {
-        let (bit, offset, range) = part(self.offset, self.range, *state);
+        let (bit, below, range) = part(self.below, self.range, *state);
         *state = table.next(*state, bit);
-        self.renew(offset, range);
+        self.renew(below, range);
         bit
     }
 
@@ -84,35 +89,35 @@ impl<'a> Decoder<'a> {
         ensures live { IsLive table.now state.new }
         ensures closed { IsClosed table.now }
     {
-        let offset = self.offset;
+        let below = self.below;
         let range = self.range;
         let ones = range * u32::from(*state) / 256;
-        let zeros = range - ones;
-        if offset >= zeros {
+        if below <= ones {
             *state = table.next(*state, true);
-            self.renew(offset - zeros, ones);
+            self.renew(below, ones);
             true
         } else {
             *state = table.next(*state, false);
-            self.renew(offset, zeros);
+            self.renew(below - ones, range - ones);
             false
         }
     }
 
     // Goes on with the part of the range that was decided, and with a byte more where it has become small.
     #[inline(always)]
-    fn renew(&mut self, offset: u32, range: u32)
-        requires inside { offset < range }
+    fn renew(&mut self, below: u32, range: u32)
+        requires some { 1 ≤ below }
+        requires inside { below ≤ range }
         requires most { range ≤ 65280 }
-        ensures { GoesOn offset range self.old self.new }
+        ensures { GoesOn (range - below) range self.old self.new }
     {
         if range < 256 {
             let (byte, rest) = split_byte(self.rest);
             self.rest = rest;
-            self.offset = offset * 256 + u32::from(byte);
+            self.below = below * 256 - u32::from(byte);
             self.range = range * 256;
         } else {
-            self.offset = offset;
+            self.below = below;
             self.range = range;
         }
     }
@@ -162,27 +167,49 @@ impl<'a> Decoder<'a> {
         let set = &mut states[first..first + 32];
         get_value(self, table, set, signed)
     }
+
+    /// The same for a number with a sign, with more code: for the one loop of a program that reads most of its numbers,
+    /// into which it is inlined where no other place calls it.
+    #[inline]
+    pub fn get_signed_at(
+        &mut self,
+        table: &Table,
+        states: &mut [u8],
+        first: usize,
+    ) -> Result<i32, BadSymbol>
+        requires within { first + 32 ≤ length states.old }
+        requires live { AreLive table.now states.old }
+        ensures ok { IfOk result (λ value. Gets table.now self.old states.old self.new states.new (moved first (symbol_choices value true))) }
+        ensures codable { IfOk result (λ value. IsCodable value true) }
+        ensures bad { OnErr result (Gets table.now self.old states.old self.new states.new (moved first overlong_choices)) }
+        ensures live { AreLive table.now states.new }
+        ensures closed { IsClosed table.now }
+    {
+        let set = &mut states[first..first + 32];
+        get_signed(self, table, set)
+    }
 }
 
-// The bit in whose part of the range the offset stands, and the offset in that part and its range.
+// The bit in whose part of the range the number stands, and the distance to the end of that part and its range.
 #[inline(always)]
-fn part(offset: u32, range: u32, state: u8) -> (bool, u32, u32)
+fn part(below: u32, range: u32, state: u8) -> (bool, u32, u32)
     requires usable { IsState state }
     requires least { 256 ≤ range }
     requires most { range ≤ 65280 }
-    requires inside { offset < range }
-    ensures bit { result.0 ≡ nat_le (range - part_of_one range state) offset }
-    ensures offset { result.1 ≡ (if result.0 then offset - (range - part_of_one range state) else offset) }
+    requires some { 1 ≤ below }
+    requires inside { below ≤ range }
+    ensures bit { result.0 ≡ nat_le below (part_of_one range state) }
+    ensures below { result.1 ≡ (if result.0 then below else below - part_of_one range state) }
     ensures range { result.2 ≡ (if result.0 then part_of_one range state else range - part_of_one range state) }
-    ensures inside { result.1 < result.2 }
+    ensures some { 1 ≤ result.1 }
+    ensures inside { result.1 ≤ result.2 }
     ensures most { result.2 ≤ 65280 }
 {
     let ones = range * u32::from(state) / 256;
-    let zeros = range - ones;
-    let bit = offset >= zeros;
-    let offset = if bit { offset - zeros } else { offset };
-    let range = if bit { ones } else { zeros };
-    (bit, offset, range)
+    let bit = below <= ones;
+    let below = if bit { below } else { below - ones };
+    let range = if bit { ones } else { range - ones };
+    (bit, below, range)
 }
 
 // The first byte, or 0 where there is none, and the bytes after it.

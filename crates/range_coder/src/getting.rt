@@ -1,18 +1,17 @@
 // Numbers got from bits, each with the state of a slot of a set of 32 (RFC 9043, section 3.8.1.2).
 
 ghost use Rattle.std.specs.Int.{w32, is_negative};
-ghost use Rattle.std.specs.Prelude.{◌≡◌, false, unsigned_abs, FitsSigned, ◌+◌, ◌*◌, ◌^◌, ◌<◌, ◌≤◌, ◌++◌, [], ◌∷◌, length, OnErr, IfOk};
+ghost use Rattle.std.specs.Prelude.{◌≡◌, true, false, unsigned_abs, FitsSigned, ◌+◌, ◌*◌, ◌^◌, ◌<◌, ◌≤◌, ◌++◌, [], ◌∷◌, length, OnErr, IfOk};
 ghost use Rattle.range_coder.specs.Table.{IsClosed, AreLive};
 ghost use Rattle.range_coder.specs.Coding.{Gets};
-ghost use Rattle.range_coder.specs.Symbol.{IsCodable, symbol_choices, overlong_choices, exponent_choices, ones, low_bits, sign_choices, rest_choices};
+ghost use Rattle.range_coder.specs.Symbol.{IsCodable, symbol_choices, overlong_choices, choice, exponent_slot, exponent_choices, nonzero_choices, ones, low_bits, sign_choices, rest_choices};
 
 use crate::{BadSymbol, Decoder, Table};
 
-/// From so many ones on they share a slot.
+/// The exponents from here on are rare.
 const SHORT: usize = 10;
 
 /// Reads a number with a set.
-#[inline(always)]
 pub(crate) fn get_value(
     decoder: &mut Decoder<'_>,
     table: &Table,
@@ -34,6 +33,88 @@ pub(crate) fn get_value(
     Ok(get_rest(decoder, table, set, exponent, signed))
 }
 
+/// Reads a number with a sign with a set. Each usual exponent has code of its own, in which its slots are known.
+#[inline]
+pub(crate) fn get_signed(
+    decoder: &mut Decoder<'_>,
+    table: &Table,
+    set: &mut [u8],
+) -> Result<i32, BadSymbol>
+    requires set { length set.old ≡ 32 }
+    requires live { AreLive table.now set.old }
+    ensures ok { IfOk result (λ value. Gets table.now decoder.old set.old decoder.new set.new (symbol_choices value true)) }
+    ensures codable { IfOk result (λ value. IsCodable value true) }
+    ensures bad { OnErr result (Gets table.now decoder.old set.old decoder.new set.new overlong_choices) }
+    ensures live { AreLive table.now set.new }
+    ensures closed { IsClosed table.now }
+{
+    if decoder.get_flag_slot(table, set, 0) {
+        return Ok(0);
+    }
+    get_usual(decoder, table, set)
+}
+
+// Reads a number with a sign behind the choice that it isn't 0.
+#[inline]
+#[tactic(auto, using(crate::proofs::Symbols::coded_ones))]
+fn get_usual(decoder: &mut Decoder<'_>, table: &Table, set: &mut [u8]) -> Result<i32, BadSymbol>
+    requires set { length set.old ≡ 32 }
+    requires live { AreLive table.now set.old }
+    ensures ok { IfOk result (λ value. Gets table.now decoder.old set.old decoder.new set.new (nonzero_choices value true)) }
+    ensures some { IfOk result (λ value. 0 < unsigned_abs value) }
+    ensures codable { IfOk result (λ value. IsCodable value true) }
+    ensures bad { OnErr result (Gets table.now decoder.old set.old decoder.new set.new (ones 31)) }
+    ensures live { AreLive table.now set.new }
+{
+    if !get_more(decoder, table, set, 0) {
+        return Ok(get_rest(decoder, table, set, 0, true));
+    }
+    if !get_more(decoder, table, set, 1) {
+        return Ok(get_rest(decoder, table, set, 1, true));
+    }
+    if !get_more(decoder, table, set, 2) {
+        return Ok(get_rest(decoder, table, set, 2, true));
+    }
+    if !get_more(decoder, table, set, 3) {
+        return Ok(get_rest(decoder, table, set, 3, true));
+    }
+    if !get_more(decoder, table, set, 4) {
+        return Ok(get_rest(decoder, table, set, 4, true));
+    }
+    if !get_more(decoder, table, set, 5) {
+        return Ok(get_rest(decoder, table, set, 5, true));
+    }
+    if !get_more(decoder, table, set, 6) {
+        return Ok(get_rest(decoder, table, set, 6, true));
+    }
+    if !get_more(decoder, table, set, 7) {
+        return Ok(get_rest(decoder, table, set, 7, true));
+    }
+    if !get_more(decoder, table, set, 8) {
+        return Ok(get_rest(decoder, table, set, 8, true));
+    }
+    if !get_more(decoder, table, set, 9) {
+        return Ok(get_rest(decoder, table, set, 9, true));
+    }
+    for many in SHORT..31 {
+        if !get_more(decoder, table, set, many) {
+            return Ok(get_rest(decoder, table, set, many, true));
+        }
+    }
+    Err(BadSymbol)
+}
+
+// Reads whether the exponent is more than so many.
+#[inline(always)]
+fn get_more(decoder: &mut Decoder<'_>, table: &Table, set: &mut [u8], count: usize) -> bool
+    requires set { length set.old ≡ 32 }
+    requires live { AreLive table.now set.old }
+    ensures gets { Gets table.now decoder.old set.old decoder.new set.new (choice (exponent_slot count) result ∷ []) }
+    ensures live { AreLive table.now set.new }
+{
+    decoder.get_flag_slot(table, set, 1 + count.min(9))
+}
+
 // Reads what is behind the exponent: the bits below the highest one, and the sign.
 #[inline(always)]
 fn get_rest(
@@ -53,12 +134,12 @@ fn get_rest(
     ensures fits { FitsSigned w32 result }
     ensures live { AreLive table.now set.new }
 {
-    let magnitude = get_magnitude(decoder, table, set, exponent);
+    let magnitude = get_low_bits(decoder, table, set, exponent);
     let negative = get_sign(decoder, table, set, exponent, signed);
     with_sign(magnitude, negative)
 }
 
-// Reads an exponent. From 10 ones on they share a slot.
+// Reads an exponent.
 #[inline(always)]
 #[tactic(auto, using(crate::proofs::Symbols::coded_ones))]
 fn get_exponent(
@@ -73,45 +154,12 @@ fn get_exponent(
     ensures bad { OnErr result (Gets table.now decoder.old set.old decoder.new set.new (ones 31)) }
     ensures live { AreLive table.now set.new }
 {
-    for few in 0..SHORT {
-        if !decoder.get_flag_slot(table, set, 1 + few) {
-            return Ok(few);
-        }
-    }
-    for many in SHORT..31 {
-        if !decoder.get_flag_slot(table, set, 10) {
-            return Ok(many);
+    for count in 0..31 {
+        if !get_more(decoder, table, set, count) {
+            return Ok(count);
         }
     }
     Err(BadSymbol)
-}
-
-// Reads the bits below the highest one, and answers the magnitude. The usual exponents each have code of their own,
-// whose slots are known.
-#[inline(always)]
-fn get_magnitude(decoder: &mut Decoder<'_>, table: &Table, set: &mut [u8], exponent: usize) -> u32
-    requires set { length set.old ≡ 32 }
-    requires live { AreLive table.now set.old }
-    requires exponent { exponent ≤ 30 }
-    ensures gets { Gets table.now decoder.old set.old decoder.new set.new (low_bits exponent result) }
-    ensures low { 2 ^ exponent ≤ result }
-    ensures high { result < 2 * 2 ^ exponent }
-    ensures live { AreLive table.now set.new }
-{
-    match exponent {
-        0 => get_low_bits(decoder, table, set, 0),
-        1 => get_low_bits(decoder, table, set, 1),
-        2 => get_low_bits(decoder, table, set, 2),
-        3 => get_low_bits(decoder, table, set, 3),
-        4 => get_low_bits(decoder, table, set, 4),
-        5 => get_low_bits(decoder, table, set, 5),
-        6 => get_low_bits(decoder, table, set, 6),
-        7 => get_low_bits(decoder, table, set, 7),
-        8 => get_low_bits(decoder, table, set, 8),
-        9 => get_low_bits(decoder, table, set, 9),
-        10 => get_low_bits(decoder, table, set, 10),
-        _ => get_low_bits(decoder, table, set, exponent),
-    }
 }
 
 // Reads so many bits below the highest one, and answers the magnitude.

@@ -23,7 +23,7 @@ loop-x-preserved c =
     let g : SFits w32 c.in_ok-value.value = search rules in
     sample_got _ _ _ _ _ _ _ _ _ _ _ _ _ c.loop-x.x c.in_ok-value.value _ c.restored_of.result c.loop-x.invariant slot c.in_ok-value.ensures.ok c.in_ok-value.ensures.codable
     (c.restored_of.ensures.value ∙ restored_as _ _ _ _ _ _ _ (ap is_negative (z ∙ e)) (c.predicted.ensures.prediction ∙ ap prediction c.around_in-around.ensures) (to_z-of_z w32 c.in_ok-value.value g))
-    c.restored_of.ensures.below (omega (arith, length-set {A = ℕ})) c.get_symbol_at.ensures.live
+    c.restored_of.ensures.below (omega (arith, length-set {A = ℕ})) c.get_signed_at.ensures.live
 
 pub returns-clause-ok : goal.returns-clause-ok
 returns-clause-ok c =

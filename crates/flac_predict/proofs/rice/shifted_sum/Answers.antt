@@ -16,5 +16,6 @@ loop-residual-preserved c =
     let l = shr_le c.zigzag_of.result c.args.parameter in
     record {
       sum = omega (arith, s, q, c.loop-residual.invariant.sum);
-      small = omega (arith, l, c.loop-residual.invariant.small, c.zigzag_of.type_inv);
+      low = omega (arith, c.loop-residual.invariant.low);
+      high = omega (arith, l, c.loop-residual.invariant.high, c.zigzag_of.type_inv);
     }

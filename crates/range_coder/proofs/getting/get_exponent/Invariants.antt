@@ -2,8 +2,5 @@ use Rattle.range_coder.specs.Symbol.{ones}
 use Rattle.range_coder.proofs.Symbols.{HasGot}
 use Rattle.range_coder.proofs.getting.get_exponent.Given as goal
 
-abbrev pub invariant-loop-few : goal.invariant-loop-few
-invariant-loop-few l = HasGot l.table l.fn.decoder l.fn.set l.decoder l.set (ones l.few)
-
-abbrev pub invariant-loop-many : goal.invariant-loop-many
-invariant-loop-many l = HasGot l.table l.fn.decoder l.fn.set l.decoder l.set (ones l.many)
+abbrev pub invariant-loop-count : goal.invariant-loop-count
+invariant-loop-count l = HasGot l.table l.fn.decoder l.fn.set l.decoder l.set (ones l.count)

@@ -3,7 +3,7 @@ use Rattle.std.proofs.lemmas.Int.{to_z-of_z}
 use Rattle.flac_predict.specs.Samples.{sample_at, AreInside}
 use Rattle.flac_predict.proofs.BankLaws.{bank_is_linear, bank_is_tame, residual_inside, linear_is_small}
 use Rattle.flac_predict.proofs.LinearCode.{front_inside, residual_written, residual_value, all_written, same_inside}
-use Rattle.flac_predict.proofs.linear.residual_linear.Goals as goal
+use Rattle.flac_predict.proofs.linear.residuals_of.Goals as goal
 
 pub prediction-prediction-requires-clause-set : goal.prediction-prediction-requires-clause-set
 prediction-prediction-requires-clause-set c = bank_is_linear c.args.set.now c.requires.set
