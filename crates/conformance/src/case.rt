@@ -9,6 +9,7 @@ use crate::names::NamesCase;
 use crate::outline::OutlineCase;
 use crate::pack::PackCase;
 use crate::params::ParamsCase;
+use crate::predict::PredictCase;
 use crate::restore::RestoreCase;
 use crate::runs::RunsCase;
 use crate::side::SideCase;
@@ -27,6 +28,7 @@ enum Case {
     Runs(RunsCase),
     Names(NamesCase),
     Slice(SliceCase),
+    Predict(PredictCase),
     Flac(FlacCase),
     Ebml(EbmlCase),
     Side(SideCase),
@@ -58,6 +60,9 @@ fn read(alloc: Global, words: &[&str]) -> Result<Case, Stop> {
     }
     if let Some(case) = SliceCase::read(alloc, words)? {
         return Ok(Case::Slice(case));
+    }
+    if let Some(case) = PredictCase::read(alloc, words)? {
+        return Ok(Case::Predict(case));
     }
     if let Some(case) = FlacCase::read(alloc, words)? {
         return Ok(Case::Flac(case));
@@ -93,6 +98,7 @@ fn answer(alloc: Global, line: &str) -> Result<String, Stop> {
         Case::Runs(case) => case.answer(alloc),
         Case::Names(case) => case.answer(alloc),
         Case::Slice(case) => case.answer(alloc),
+        Case::Predict(case) => case.answer(alloc),
         Case::Flac(case) => case.answer(alloc),
         Case::Ebml(case) => case.answer(alloc),
         Case::Side(case) => case.answer(alloc),

@@ -1,11 +1,13 @@
 // Sound: the parameters of a stream, and its frames.
 
-ghost use Rattle.std.specs.Prelude.{◌≡◌, IsTrue};
+ghost use Rattle.std.specs.Prelude.{◌≡◌, ◌≤◌, IsTrue, IfOk, length};
 ghost use Rattle.flac_frame.specs.StreamInfo.{IsWritable, is_depth};
+ghost use Rattle.flac_frame.specs.Writing.{AreAllInside};
 
+use crate::predict::are_inside;
 use crate::stop::Stop;
 use crate::{answer, parse};
-use flac_frame::{Block, FlacWhy, StreamInfo, decode};
+use flac_frame::{Block, FlacWhy, StreamInfo, decode, encode};
 use std::alloc::Global;
 
 /// A case of sound.
@@ -17,6 +19,11 @@ pub enum FlacCase {
         capacity: Option<u32>,
         info: [u8; 34],
         bytes: Vec<u8>,
+    },
+    Frame {
+        info: StreamInfo,
+        number: u32,
+        channels: Vec<Vec<i32>>,
     },
 }
 
@@ -36,6 +43,11 @@ impl FlacCase {
                 info: info_bytes(alloc, info)?,
                 bytes: parse::bytes(alloc, bytes)?,
             },
+            ["flac", rate, channels, bits, total, number, samples @ ..] => FlacCase::Frame {
+                info: stream_of(rate, channels, bits, total)?,
+                number: parse::number(number)?,
+                channels: channels_of(alloc, samples)?,
+            },
             _ => return Ok(None),
         };
         Ok(Some(case))
@@ -51,8 +63,36 @@ impl FlacCase {
                 info,
                 bytes,
             } => block(alloc, *capacity, info, bytes.as_slice()),
+            FlacCase::Frame {
+                info,
+                number,
+                channels,
+            } => frame(alloc, info, *number, channels.as_slice()),
         }
     }
+}
+
+// The parameters of a stream that is written in blocks of 4,096.
+fn stream_of(rate: &str, channels: &str, bits: &str, total: &str) -> Result<StreamInfo, Stop> {
+    Ok(StreamInfo {
+        min_block: 4096,
+        max_block: 4096,
+        min_frame: 0,
+        max_frame: 0,
+        rate: parse::number(rate)?,
+        channels: parse::number(channels)?,
+        bits: parse::number(bits)?,
+        total: parse::number(total)?,
+        md5: [0; 16],
+    })
+}
+
+fn channels_of(alloc: Global, words: &[&str]) -> Result<Vec<Vec<i32>>, Stop> {
+    let mut channels = Vec::new(alloc);
+    for word in words {
+        channels.push(parse::numbers(alloc, word)?)?;
+    }
+    Ok(channels)
 }
 
 fn stream(alloc: Global, words: &[&str]) -> Result<StreamInfo, Stop> {
@@ -187,4 +227,62 @@ fn block(
         text.push_str(answer::sound(alloc, block.channel(k))?.as_str())?;
     }
     Ok(text)
+}
+
+// A block of these samples, as many of each channel.
+fn filled(alloc: Global, channels: &[Vec<i32>]) -> Result<Block, Stop>
+    ensures count { IfOk result (λ block. block.channels ≡ length channels.now) }
+    ensures few { IfOk result (λ block. block.len ≤ 4096) }
+{
+    let count = channels.len();
+    if count < 1 || count > 8 || channels[0].len() > 4096 {
+        return Err(Stop::OutOfRange);
+    }
+    let len = channels[0].len() as u32;
+    let mut block = Block::new(alloc, count as u8, len)?;
+    block.set_len(len);
+    for k in 0..count {
+        let samples = channels[k].as_slice();
+        let room = block.channel_mut(k as u8);
+        if room.len() != samples.len() {
+            return Err(Stop::OutOfRange);
+        }
+        room.copy_from_slice(samples);
+    }
+    Ok(block)
+}
+
+// Whether the samples of each channel are inside so many bits.
+fn are_all_inside(block: &Block, channels: u8, bits: u8) -> bool
+    requires channels { block.now.channels ≡ channels }
+    requires low { 1 ≤ bits }
+    requires high { bits ≤ 25 }
+    ensures { IsTrue result → AreAllInside bits block.now }
+{
+    for k in 0..channels {
+        if !are_inside(block.channel(k), u32::from(bits)) {
+            return false;
+        }
+    }
+    true
+}
+
+fn frame(
+    alloc: Global,
+    info: &StreamInfo,
+    number: u32,
+    channels: &[Vec<i32>],
+) -> Result<String, Stop> {
+    if !is_writable(*info) || channels.len() != info.channels as usize {
+        return Err(Stop::OutOfRange);
+    }
+    let block = filled(alloc, channels)?;
+    if block.len() < 1 || block.len() > u32::from(info.max_block) || info.max_block < 16 {
+        return Err(Stop::OutOfRange);
+    }
+    if number >= 1 << 31 || !are_all_inside(&block, info.channels, info.bits) {
+        return Err(Stop::OutOfRange);
+    }
+    let frame = encode(alloc, &block, info, number)?;
+    answer::bytes(alloc, frame.as_slice())
 }

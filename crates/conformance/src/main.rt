@@ -13,6 +13,7 @@ mod outline;
 mod pack;
 mod params;
 mod parse;
+mod predict;
 mod restore;
 mod runs;
 mod shelf;
