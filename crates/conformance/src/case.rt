@@ -5,6 +5,7 @@ use crate::coder::CoderCase;
 use crate::dpx::DpxCase;
 use crate::ebml::EbmlCase;
 use crate::flac::FlacCase;
+use crate::frames::FrameCase;
 use crate::names::NamesCase;
 use crate::outline::OutlineCase;
 use crate::pack::PackCase;
@@ -17,6 +18,8 @@ use crate::slices::SliceCase;
 use crate::stop::Stop;
 use crate::words::WordsCase;
 use std::alloc::{AllocError, Global};
+use std::marker::Sync;
+use std::thread::Threads;
 
 /// A call, and what it is made on.
 #[derive(Debug, Drop)]
@@ -28,6 +31,7 @@ enum Case {
     Runs(RunsCase),
     Names(NamesCase),
     Slice(SliceCase),
+    Frame(FrameCase),
     Predict(PredictCase),
     Flac(FlacCase),
     Ebml(EbmlCase),
@@ -61,6 +65,9 @@ fn read(alloc: Global, words: &[&str]) -> Result<Case, Stop> {
     if let Some(case) = SliceCase::read(alloc, words)? {
         return Ok(Case::Slice(case));
     }
+    if let Some(case) = FrameCase::read(alloc, words)? {
+        return Ok(Case::Frame(case));
+    }
     if let Some(case) = PredictCase::read(alloc, words)? {
         return Ok(Case::Predict(case));
     }
@@ -88,7 +95,7 @@ fn read(alloc: Global, words: &[&str]) -> Result<Case, Stop> {
     Err(Stop::Unreadable)
 }
 
-fn answer(alloc: Global, line: &str) -> Result<String, Stop> {
+fn answer<R: Threads + Sync>(rt: &R, alloc: Global, line: &str) -> Result<String, Stop> {
     let words: Vec<&str> = line.split(' ').collect(alloc)?;
     match read(alloc, words.as_slice())? {
         Case::Bits(case) => case.answer(alloc),
@@ -98,6 +105,7 @@ fn answer(alloc: Global, line: &str) -> Result<String, Stop> {
         Case::Runs(case) => case.answer(alloc),
         Case::Names(case) => case.answer(alloc),
         Case::Slice(case) => case.answer(alloc),
+        Case::Frame(case) => case.answer(rt, alloc),
         Case::Predict(case) => case.answer(alloc),
         Case::Flac(case) => case.answer(alloc),
         Case::Ebml(case) => case.answer(alloc),
@@ -110,11 +118,15 @@ fn answer(alloc: Global, line: &str) -> Result<String, Stop> {
 }
 
 /// The answer to a line. A comment is its own answer.
-pub fn answer_of(alloc: Global, line: &str) -> Result<String, AllocError> {
+pub fn answer_of<R: Threads + Sync>(
+    rt: &R,
+    alloc: Global,
+    line: &str,
+) -> Result<String, AllocError> {
     if line.starts_with('#') {
         return String::from_str(alloc, line);
     }
-    match answer(alloc, line) {
+    match answer(rt, alloc, line) {
         Ok(answer) => Ok(answer),
         Err(stop) => format!(in alloc; "{stop}"),
     }

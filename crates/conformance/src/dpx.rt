@@ -125,8 +125,8 @@ fn is_stride(line: u32, stride: u32) -> bool
     stride == line || stride == (line + 3) / 4 * 4
 }
 
-// Whether the layout is well formed.
-fn is_well_formed(layout: &Layout) -> bool
+/// Whether the layout is well formed.
+pub fn is_well_formed(layout: &Layout) -> bool
     ensures { IsTrue result → IsWellFormed layout.now }
 {
     is_picture(layout.width, layout.height)

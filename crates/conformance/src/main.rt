@@ -8,6 +8,7 @@ mod coder;
 mod dpx;
 mod ebml;
 mod flac;
+mod frames;
 mod names;
 mod outline;
 mod pack;
@@ -27,7 +28,7 @@ use std::io::{self, BufRead, BufReader, BufWriter, Write};
 fn main(rt: HostRuntime) -> io::Result<()> {
     let mut out = BufWriter::new(rt.alloc(), io::writer(&rt))?;
     for line in BufReader::new(rt.alloc(), rt.reader())?.lines(rt.alloc()) {
-        let answer = case::answer_of(rt.alloc(), line?.as_str())?;
+        let answer = case::answer_of(&rt, rt.alloc(), line?.as_str())?;
         writeln!(out, "{answer}")?;
     }
     out.flush()

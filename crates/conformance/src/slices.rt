@@ -227,7 +227,7 @@ fn params_of(alloc: Global, source: &Source) -> Result<Params, Stop> {
 }
 
 /// Whether a head is inside the grid of the parameters, with sets that they have.
-fn is_inside(params: &Params, head: &SliceHead) -> bool
+pub fn is_inside(params: &Params, head: &SliceHead) -> bool
     ensures { IsTrue result → IsInside params.now head.now }
 {
     let across = u64::from(head.x) + u64::from(head.columns);
@@ -241,7 +241,7 @@ fn is_inside(params: &Params, head: &SliceHead) -> bool
 }
 
 /// Whether a tile has this size, and each of its samples the bits of the parameters.
-fn is_tile(params: &Params, width: u32, height: u32, tile: &[u16]) -> bool
+pub fn is_tile(params: &Params, width: u32, height: u32, tile: &[u16]) -> bool
     ensures { IsTrue result → IsTile params.now.bits width height tile.now }
 {
     let pixels = u64::from(width) * u64::from(height);
