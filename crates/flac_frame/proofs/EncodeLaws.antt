@@ -71,7 +71,7 @@ channel_len block k is lt =
     let d = length-drop start block.samples in
     ap (λ m. length (take m (drop start block.samples))) n ∙ length-take-le block.len (drop start block.samples) (omega arith)
 
-first_of : (rows : List (List ℤ)) → 1 ≤ length rows → size_of rows ≡ length (get_or rows 0 [])
+first_of : (all : List (List ℤ)) → 1 ≤ length all → size_of all ≡ length (get_or all 0 [])
 first_of [] some = absurd (omega arith)
 first_of (row ∷ rows) some = refl
 

@@ -15,6 +15,7 @@ pub mod RoundLaws
 pub mod StereoBack
 pub mod StoredLaws
 pub mod SubframeBack
+pub mod TailLaws
 pub mod ValueLaws
 pub mod WastedLaws
 pub mod WritingLaws

@@ -62,7 +62,7 @@ same_low zero m n same = refl
 same_low (suc count) m n same =
     ap (λ (b : ℕ). (b == 1) ∷ low_bits count m) (same count (omega arith)) ∙ ap (λ (bits : List Bool). (bit_at n count == 1) ∷ bits) (same_low count m n (λ i lt. same i (omega arith)))
 
-low_cat : (high low a b : ℕ) → b < 2 ^ low → low_bits (high + low) (a * 2 ^ low + b) ≡ low_bits high a ++ low_bits low b
+pub low_cat : (high low a b : ℕ) → b < 2 ^ low → low_bits (high + low) (a * 2 ^ low + b) ≡ low_bits high a ++ low_bits low b
 unfolding low_bits
 low_cat zero low a b lt = rw zero-add (same_low low (a * 2 ^ low + b) b (λ i i_lt. bit_at_cat_low a low b i i_lt))
 low_cat (suc high) low a b lt =

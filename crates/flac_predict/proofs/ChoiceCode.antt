@@ -1,9 +1,8 @@
 -- The choice as the code makes it: one offer after another.
-use Rattle.std.proofs.Common.{◌≡◌, ℕ, suc, ◌+◌, ◌*◌, ◌<◌, ◌≤◌, Bool, true, false, cond, ltb, ℤ, pos, negsuc, List, [], ◌∷◌, ◌++◌, length, drop, Option, Some, None, refl, sym, ap, ◌∙◌, subst, arith, append_assoc}
-use Rattle.std.specs.Option.{unwrap_or}
+use Rattle.std.proofs.Common.{◌≡◌, ℕ, zero, suc, ◌+◌, ◌-◌, ◌*◌, ◌<◌, ◌≤◌, Bool, true, false, cond, ltb, ℤ, pos, negsuc, List, [], ◌∷◌, ◌++◌, length, drop, get_or, Option, Some, None, refl, sym, ap, ◌∙◌, subst, arith, inl, inr, append_assoc}
 use Rattle.std.proofs.lemmas.Int.{ints}
-use Rattle.std.proofs.lemmas.Bool.{lt-ltb, le-ltb, eq-eqb, ne_eqb, and_left}
-use Rattle.std.proofs.lemmas.List.{append-nil, drop_more, drop_all}
+use Rattle.std.proofs.lemmas.Bool.{lt-ltb, le-ltb, ltb-true, ltb-false, cases_lt, eq-eqb, ne_eqb, and_left}
+use Rattle.std.proofs.lemmas.List.{append-nil, drop_more, drop_all, length-append, get_or_push, get_or_append_left, get_or-append-add}
 use Rattle.flac_predict.specs.declared.sets.LinearSet.{LinearSet}
 use Rattle.flac_predict.specs.declared.choosing.Choice.{Choice}
 use Rattle.flac_predict.specs.declared.choosing.Choice.TheVariants.{Constant, Fixed, Linear, Verbatim}
@@ -13,50 +12,109 @@ use Rattle.flac_predict.specs.Fixed.{fixed_residuals}
 use Rattle.flac_predict.specs.Linear.{linear_residuals}
 use Rattle.flac_predict.specs.Bank.{bank_set, set_of}
 use Rattle.flac_predict.specs.Rice.{best_parameter, residual_bits, AreCodable}
-use Rattle.flac_predict.specs.Least.{least_of, kept}
+use Rattle.flac_predict.specs.Least.{least_of}
 use Rattle.flac_predict.specs.Choice.{is_same, all_are, constant_offer, fixed_offer, fixed_offers, linear_offer, linear_offers, candidates, candidate_bits, best_candidate}
-use Rattle.flac_predict.specs.Weighing.{IsWeighed, IsNoMore, Holds, lighter_of}
+use Rattle.flac_predict.specs.Weighing.{IsWeighed, IsAtLeast, IsOfOrder, Holds, lighter_of}
 use Rattle.flac_predict.proofs.LeastLaws.{taken, least_of_push}
+use Rattle.flac_predict.proofs.ChoiceLaws.{candidate_is_best}
 
--- one more offer
-lighter_is : (depth : ℕ) (samples : List ℤ) (w next : Weighed) → IsWeighed depth samples w → IsWeighed depth samples next → (b : Bool) → ltb next.bits w.bits ≡ b → Some ((cond b next w).choice) ≡ Some (cond (ltb (candidate_bits depth samples next.choice) (candidate_bits depth samples w.choice)) next.choice w.choice)
-lighter_is depth samples w next i j true e =
-    let t : ltb (candidate_bits depth samples next.choice) (candidate_bits depth samples w.choice) ≡ true = rw (← i, ← j) e in rw t refl
-lighter_is depth samples w next i j false e =
-    let t : ltb (candidate_bits depth samples next.choice) (candidate_bits depth samples w.choice) ≡ false = rw (← i, ← j) e in rw t refl
+-- an offer behind others, and what is held
 
-weighed_is : (depth : ℕ) (samples : List ℤ) (w next : Weighed) → IsWeighed depth samples w → IsWeighed depth samples next → (b : Bool) → IsWeighed depth samples (cond b next w)
-weighed_is depth samples w next i j true = j
-weighed_is depth samples w next i j false = i
+-- the least of some offers has more bits than this one
+abbrev IsMore : (Choice → ℕ) → Choice → Option Choice → Type 0
+IsMore cost c None = Unit {0}
+IsMore cost c (Some least) = cost c < cost least
 
-pub holds_next : (depth : ℕ) (samples : List ℤ) (held : Option Weighed) (next : Weighed) (offers : List Choice) → Holds depth samples held offers → IsWeighed depth samples next → Holds depth samples (Some (lighter_of held next)) (offers ++ next.choice ∷ [])
-holds_next depth samples None next offers h j = record {
-  least = sym (least_of_push (candidate_bits depth samples) offers next.choice ∙ ap (λ (o : Option Choice). Some (taken (candidate_bits depth samples) o next.choice)) (sym h.least));
-  weighed = j;
-}
-holds_next depth samples (Some w) next offers h j = record {
-  least = lighter_is depth samples w next h.weighed j (ltb next.bits w.bits) refl ∙ sym (least_of_push (candidate_bits depth samples) offers next.choice ∙ ap (λ (o : Option Choice). Some (taken (candidate_bits depth samples) o next.choice)) (sym h.least));
-  weighed = weighed_is depth samples w next h.weighed j (ltb next.bits w.bits);
-}
+taken_next : (cost : Choice → ℕ) (c : Choice) (o : Option Choice) → IsMore cost c o → taken cost o c ≡ c
+taken_next cost c None h = refl
+taken_next cost c (Some m) h = let t : ltb (cost c) (cost m) ≡ true = lt-ltb (cost c) (cost m) h in rw t refl
 
-pub holds_more : (depth : ℕ) (samples : List ℤ) (held : Option Weighed) (next best : Weighed) (offers more : List Choice) → Holds depth samples held offers → IsWeighed depth samples next → best ≡ lighter_of held next → more ≡ offers ++ next.choice ∷ [] → Holds depth samples (Some best) more
-holds_more depth samples held next best offers more h j e f = rw (e, f) (holds_next depth samples held next offers h j)
+taken_held : (cost : Choice → ℕ) (c m : Choice) → cost m ≤ cost c → taken cost (Some m) c ≡ m
+taken_held cost c m h = let t : ltb (cost c) (cost m) ≡ false = le-ltb (cost c) (cost m) h in rw t refl
 
-pub holds_same : (depth : ℕ) (samples : List ℤ) (held : Option Weighed) (offers more : List Choice) → Holds depth samples held offers → more ≡ offers → Holds depth samples held more
+taken_most : (cost : Choice → ℕ) (bound : ℕ) (c m : Choice) → bound ≤ cost m → bound ≤ cost c → (b : Bool) → bound ≤ cost (cond b c m)
+taken_most cost bound c m h l true = l
+taken_most cost bound c m h l false = h
+
+taken_at_least : (depth : ℕ) (samples : List ℤ) (bound : ℕ) (c : Choice) (o : Option Choice) → IsAtLeast depth samples bound o → bound ≤ candidate_bits depth samples c → bound ≤ candidate_bits depth samples (taken (candidate_bits depth samples) o c)
+taken_at_least depth samples bound c None h l = l
+taken_at_least depth samples bound c (Some m) h l =
+    taken_most (candidate_bits depth samples) bound c m h l (ltb (candidate_bits depth samples c) (candidate_bits depth samples m))
+
+more_than : (depth : ℕ) (samples : List ℤ) (bound : ℕ) (c : Choice) (o : Option Choice) → IsAtLeast depth samples bound o → candidate_bits depth samples c < bound → IsMore (candidate_bits depth samples) c o
+more_than depth samples bound c None h l = tt
+more_than depth samples bound c (Some m) h l = omega (arith, h, l)
+
+-- the least of the offers so far has more bits than one that is lighter than what is held
+all_more : (depth : ℕ) (samples : List ℤ) (held : Weighed) (c : Choice) (offers : List Choice) → Holds depth samples held offers → candidate_bits depth samples c < held.bits → IsMore (candidate_bits depth samples) c (least_of (candidate_bits depth samples) offers)
+all_more depth samples held c offers h l =
+    elim (cases_lt held.bits h.bound) as (λ _. IsMore (candidate_bits depth samples) c (least_of (candidate_bits depth samples) offers)) [
+      | inl b ↦
+          let w : held.bits ≡ candidate_bits depth samples held.choice = h.weighed b in
+          let m : candidate_bits depth samples c < candidate_bits depth samples held.choice = omega (arith, w, l) in
+          subst (IsMore (candidate_bits depth samples) c) (h.least b) m
+      | inr b ↦ more_than depth samples h.bound c _ (h.none b) (omega (arith, b, l, h.within))
+    ]
+
+holds_lighter : (depth : ℕ) (samples : List ℤ) (held next : Weighed) (offers : List Choice) → Holds depth samples held offers → IsWeighed depth samples next → next.bits < held.bits → Holds depth samples next (offers ++ next.choice ∷ [])
+holds_lighter depth samples held next offers h j l =
+    let cost = candidate_bits depth samples in
+    let m = all_more depth samples held next.choice offers h (omega (arith, j, l)) in
+    record {
+      bound = h.bound;
+      reached = h.reached;
+      small = h.small;
+      within = omega (arith, l, h.within);
+      least = λ _. sym (least_of_push cost offers next.choice ∙ ap (λ (c : Choice). Some c) (taken_next cost next.choice (least_of cost offers) m));
+      weighed = λ _. j;
+      none = λ b. absurd (omega (arith, b, l, h.within));
+    }
+
+pub holds_kept : (depth : ℕ) (samples : List ℤ) (held : Weighed) (c : Choice) (offers more : List Choice) → Holds depth samples held offers → held.bits ≤ candidate_bits depth samples c → more ≡ offers ++ c ∷ [] → Holds depth samples held more
+holds_kept depth samples held c offers more h n e =
+    let cost = candidate_bits depth samples in
+    let p : least_of cost more ≡ Some (taken cost (least_of cost offers) c) = ap (least_of cost) e ∙ least_of_push cost offers c in
+    record {
+      bound = h.bound;
+      reached = h.reached;
+      small = h.small;
+      within = h.within;
+      least = λ b.
+          let w : held.bits ≡ cost held.choice = h.weighed b in
+          let k : taken cost (Some held.choice) c ≡ held.choice = taken_held cost c held.choice (omega (arith, w, n)) in
+          sym (p ∙ ap (λ (o : Option Choice). Some (taken cost o c)) (sym (h.least b)) ∙ ap (λ (x : Choice). Some x) k);
+      weighed = h.weighed;
+      none = λ b. subst (IsAtLeast depth samples h.bound) (sym p) (taken_at_least depth samples h.bound c (least_of cost offers) (h.none b) (omega (arith, b, n)));
+    }
+
+lighter_holds : (depth : ℕ) (samples : List ℤ) (held next : Weighed) (offers : List Choice) → Holds depth samples held offers → IsWeighed depth samples next → (b : Bool) → ltb next.bits held.bits ≡ b → Holds depth samples (cond b next held) (offers ++ next.choice ∷ [])
+lighter_holds depth samples held next offers h j true e =
+    holds_lighter depth samples held next offers h j (ltb-true next.bits held.bits e)
+lighter_holds depth samples held next offers h j false e =
+    holds_kept depth samples held next.choice offers _ h (omega (arith, j, ltb-false next.bits held.bits e)) refl
+
+pub holds_more : (depth : ℕ) (samples : List ℤ) (held next best : Weighed) (offers more : List Choice) → Holds depth samples held offers → IsWeighed depth samples next → best ≡ lighter_of held next → more ≡ offers ++ next.choice ∷ [] → Holds depth samples best more
+holds_more depth samples held next best offers more h j e f =
+    rw (e, f) (lighter_holds depth samples held next offers h j (ltb next.bits held.bits) refl)
+
+pub holds_same : (depth : ℕ) (samples : List ℤ) (held : Weighed) (offers more : List Choice) → Holds depth samples held offers → more ≡ offers → Holds depth samples held more
 holds_same depth samples held offers more h e = subst (Holds depth samples held) (sym e) h
 
--- an offer that what is held has no more bits than changes nothing
-pub holds_kept : (depth : ℕ) (samples : List ℤ) (held : Option Weighed) (c : Choice) (offers more : List Choice) → Holds depth samples held offers → IsNoMore held (candidate_bits depth samples c) → more ≡ offers ++ c ∷ [] → Holds depth samples held more
-holds_kept depth samples None c offers more h n e = absurd n
-holds_kept depth samples (Some w) c offers more h n e =
-    let next : Weighed = record { choice = c; bits = candidate_bits depth samples c } in
-    let f : ltb next.bits w.bits ≡ false = le-ltb next.bits w.bits n in
-    let kept : lighter_of (Some w) next ≡ w = ap (λ (b : Bool). cond b next w) f in
-    holds_more depth samples (Some w) next w offers more h refl (sym kept) e
+pub held_is_light : (depth : ℕ) (samples : List ℤ) (held : Weighed) (offers : List Choice) → Holds depth samples held offers → held.bits ≤ 200000
+held_is_light depth samples held offers h = omega (arith, h.within, h.small)
 
-pub no_more_on : (held : Option Weighed) (a b : ℕ) → a ≤ b → IsNoMore held a → IsNoMore held b
-no_more_on None a b le n = n
-no_more_on (Some w) a b le n = omega (arith, n)
+-- before the first offer
+pub nothing_is_held : (depth : ℕ) (samples : List ℤ) (held : Weighed) → candidate_bits depth samples (best_candidate depth samples) < held.bits → held.bits ≤ 200000 → Holds depth samples held []
+unfolding least_of
+nothing_is_held depth samples held r s = record {
+  bound = held.bits;
+  reached = r;
+  small = s;
+  within = omega arith;
+  least = λ b. absurd (omega (arith, b));
+  weighed = λ b. absurd (omega (arith, b));
+  none = λ b. tt;
+}
 
 -- the offers, one order and one set more
 pub no_fixed : (samples : List ℤ) (order : ℕ) (before : List Choice) → length samples ≤ order → before ++ fixed_offers samples (order + 1) ≡ before ++ fixed_offers samples order
@@ -101,10 +159,89 @@ pub no_number : (samples : List ℤ) (before : List Choice) → before ++ linear
 unfolding linear_offers
 no_number samples before = append-nil before
 
--- the whole list
-pub best_is : (depth : ℕ) (samples : List ℤ) (best : Weighed) → Holds depth samples (Some best) (constant_offer samples ++ fixed_offers samples 5 ++ linear_offers samples 8 ++ Verbatim ∷ []) → best.choice ≡ best_candidate depth samples
+-- the whole list: its least is below the bound, so it is what is held
+abbrev front : List ℤ → List Choice
+front samples = constant_offer samples ++ fixed_offers samples 5 ++ linear_offers samples 8
+
+least_is_best : (depth : ℕ) (samples : List ℤ) → least_of (candidate_bits depth samples) (front samples ++ Verbatim ∷ []) ≡ Some (best_candidate depth samples)
 unfolding candidates best_candidate
-best_is depth samples best h = ap (λ (o : Option Choice). unwrap_or o Verbatim) h.least
+least_is_best depth samples =
+    rw (least_of_push (candidate_bits depth samples) (front samples) Verbatim) refl
+
+some_same : (x y : Choice) → Some x ≡ Some y → x ≡ y
+some_same x y e = cc
+
+below_bound : (depth : ℕ) (samples : List ℤ) (best : Weighed) (h : Holds depth samples best (front samples ++ Verbatim ∷ [])) → best.bits < h.bound
+below_bound depth samples best h =
+    elim (cases_lt best.bits h.bound) as (λ _. best.bits < h.bound) [
+      | inl b ↦ b
+      | inr b ↦
+          let l : IsAtLeast depth samples h.bound (Some (best_candidate depth samples)) = subst (IsAtLeast depth samples h.bound) (least_is_best depth samples) (h.none b) in
+          absurd (omega (arith, l, h.reached))
+    ]
+
+pub best_is : (depth : ℕ) (samples : List ℤ) (best : Weighed) → Holds depth samples best (constant_offer samples ++ fixed_offers samples 5 ++ linear_offers samples 8 ++ Verbatim ∷ []) → best.choice ≡ best_candidate depth samples
+best_is depth samples best h =
+    some_same best.choice (best_candidate depth samples) (h.least (below_bound depth samples best h) ∙ least_is_best depth samples)
+
+pub best_weighs : (depth : ℕ) (samples : List ℤ) (best : Weighed) → Holds depth samples best (constant_offer samples ++ fixed_offers samples 5 ++ linear_offers samples 8 ++ Verbatim ∷ []) → IsWeighed depth samples best
+best_weighs depth samples best h = h.weighed (below_bound depth samples best h)
+
+-- a fixed order is one of the candidates, so the best has no more bits
+length-fixed_offers : (samples : List ℤ) (count : ℕ) → count ≤ length samples → length (fixed_offers samples count) ≡ count
+unfolding fixed_offers fixed_offer
+length-fixed_offers samples zero h = refl
+length-fixed_offers samples (suc order) h =
+    let ih = length-fixed_offers samples order (omega arith) in
+    let t : ltb order (length samples) ≡ true = lt-ltb order (length samples) (omega arith) in
+    rw t (length-append (fixed_offers samples order) (Fixed order (best_parameter (fixed_residuals order samples)) ∷ []) ∙ omega (arith, ih))
+
+abbrev of_order : List ℤ → ℕ → Choice
+of_order samples order = Fixed order (best_parameter (fixed_residuals order samples))
+
+offered_last : (samples : List ℤ) (order : ℕ) → order < length samples → fixed_offers samples (suc order) ≡ fixed_offers samples order ++ of_order samples order ∷ []
+unfolding fixed_offers fixed_offer
+offered_last samples order h =
+    let t : ltb order (length samples) ≡ true = lt-ltb order (length samples) h in rw t refl
+
+offered_at : (samples : List ℤ) (order more : ℕ) (d : Choice) → order < length samples → (order < length (fixed_offers samples (more + suc order))) × (get_or (fixed_offers samples (more + suc order)) order d ≡ of_order samples order)
+unfolding fixed_offers
+offered_at samples order zero d h =
+    let l : length (fixed_offers samples order) ≡ order = length-fixed_offers samples order (omega arith) in
+    let z : zero + suc order ≡ suc order = omega arith in
+    let e = offered_last samples order h in
+    let n : length (fixed_offers samples order ++ of_order samples order ∷ []) ≡ length (fixed_offers samples order) + 1 = length-append (fixed_offers samples order) (of_order samples order ∷ []) in
+    rw (z, e) (omega (arith, l, n), get_or_push (fixed_offers samples order) (of_order samples order) d order l)
+offered_at samples order (suc more) d h =
+    let ih = offered_at samples order more d h in
+    let s : suc more + suc order ≡ suc (more + suc order) = omega arith in
+    let xs = fixed_offers samples (more + suc order) in
+    let ys = fixed_offer samples (more + suc order) in
+    let n : length (xs ++ ys) ≡ length xs + length ys = length-append xs ys in
+    rw s (omega (arith, ih.0, n), get_or_append_left xs ys d order ih.0 ∙ ih.1)
+
+pub order_reaches : (depth : ℕ) (samples : List ℤ) (order : ℕ) (offer : Weighed) → IsOfOrder depth samples order offer → candidate_bits depth samples (best_candidate depth samples) ≤ offer.bits
+unfolding candidates
+order_reaches depth samples order offer i =
+    let cost = candidate_bits depth samples in
+    let best = best_candidate depth samples in
+    let five : 4 - order + suc order ≡ 5 = omega (arith, i.small) in
+    let fixed = fixed_offers samples 5 in
+    let first = constant_offer samples in
+    let o : (order < length fixed) × (get_or fixed order best ≡ of_order samples order) = subst (λ (n : ℕ). (order < length (fixed_offers samples n)) × (get_or (fixed_offers samples n) order best ≡ of_order samples order)) five (offered_at samples order (4 - order) best i.enough) in
+    let place = length first + order in
+    let a : get_or (first ++ fixed) place best ≡ of_order samples order = get_or-append-add first fixed order best ∙ o.1 in
+    let n : length (first ++ fixed) ≡ length first + length fixed = length-append first fixed in
+    let b : get_or (first ++ fixed ++ linear_offers samples 8) place best ≡ of_order samples order = get_or_append_left (first ++ fixed) (linear_offers samples 8) best place (omega (arith, n, o.0)) ∙ a in
+    let m : length (first ++ fixed ++ linear_offers samples 8) ≡ length (first ++ fixed) + length (linear_offers samples 8) = length-append (first ++ fixed) (linear_offers samples 8) in
+    let g : get_or (front samples ++ Verbatim ∷ []) place best ≡ of_order samples order = get_or_append_left (first ++ fixed ++ linear_offers samples 8) (Verbatim ∷ []) best place (omega (arith, n, m, o.0)) ∙ b in
+    let least : cost best ≤ cost (get_or (front samples ++ Verbatim ∷ []) place best) = (candidate_is_best depth samples).none_less place in
+    let w : cost (get_or (front samples ++ Verbatim ∷ []) place best) ≡ offer.bits = ap cost (g ∙ sym i.choice) ∙ sym i.weighed in
+    omega (arith, least, w)
+
+-- where an order is the likely one, its offer is at hand
+pub of_same_order : (depth : ℕ) (samples : List ℤ) (order other : ℕ) (offer : Weighed) → IsOfOrder depth samples other offer → order ≡ other → offer.choice ≡ Fixed order (best_parameter (fixed_residuals order samples))
+of_same_order depth samples order other offer i e = rw e i.choice
 
 -- what is counted
 pub fixed_weighs : (depth : ℕ) (samples : List ℤ) (order parameter bits rice : ℕ) → rice ≡ residual_bits parameter (fixed_residuals order samples) → bits ≡ 8 + order * depth + rice → bits ≡ candidate_bits depth samples (Fixed order parameter)
@@ -178,18 +315,8 @@ unfolding constant_offer all_are
 offer_is [] h = absurd (omega arith)
 offer_is (x ∷ more) h = rw (same_self x) refl
 
-refl_least : (depth : ℕ) (samples : List ℤ) → Some Constant ≡ least_of (candidate_bits depth samples) (Constant ∷ [])
-unfolding least_of kept
-refl_least depth samples = refl
+pub constant_is : (samples : List ℤ) → 1 ≤ length samples → all_are (sample_at samples 0) samples ≡ true → constant_offer samples ≡ Constant ∷ []
+constant_is samples h e = offer_is samples h ∙ ap (λ (b : Bool). cond b (Constant ∷ []) []) e
 
-pub constant_holds : (depth : ℕ) (samples : List ℤ) (w : Weighed) → 1 ≤ length samples → all_are (sample_at samples 0) samples ≡ true → w.choice ≡ Constant → IsWeighed depth samples w → Holds depth samples (Some w) (constant_offer samples)
-unfolding least_of
-constant_holds depth samples w h e c i =
-    let o : constant_offer samples ≡ Constant ∷ [] = offer_is samples h ∙ ap (λ (b : Bool). cond b (Constant ∷ []) []) e in
-    holds_same depth samples (Some w) (Constant ∷ []) (constant_offer samples) (record { least = ap (λ (x : Choice). Some x) c ∙ refl_least depth samples; weighed = i }) o
-
-pub nothing_holds : (depth : ℕ) (samples : List ℤ) → 1 ≤ length samples → all_are (sample_at samples 0) samples ≡ false → Holds depth samples None (constant_offer samples)
-unfolding least_of
-nothing_holds depth samples h e =
-    let o : constant_offer samples ≡ [] = offer_is samples h ∙ ap (λ (b : Bool). cond b (Constant ∷ []) []) e in
-    holds_same depth samples None [] (constant_offer samples) (record { least = refl; weighed = tt }) o
+pub no_constant : (samples : List ℤ) → 1 ≤ length samples → all_are (sample_at samples 0) samples ≡ false → constant_offer samples ≡ []
+no_constant samples h e = offer_is samples h ∙ ap (λ (b : Bool). cond b (Constant ∷ []) []) e

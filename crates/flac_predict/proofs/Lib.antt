@@ -6,6 +6,7 @@ pub mod FixedLaws
 pub mod LeastLaws
 pub mod LinearCode
 pub mod LinearLaws
+pub mod PartLaws
 pub mod RestoreLaws
 pub mod RiceLaws
 pub mod SmallLaws

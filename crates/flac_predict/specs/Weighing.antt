@@ -1,38 +1,44 @@
--- The least of the offers so far, with its bits.
-use Rattle.std.specs.Prelude.{◌≡◌, ◌≤◌, ℕ, nat_lt, if◌then◌else◌, ℤ, List, Option, Some, None}
+-- The least of the offers so far, with its bits, where it is below a bound that the best candidate is below.
+use Rattle.std.specs.Prelude.{◌≡◌, ◌≤◌, ◌<◌, ℕ, nat_lt, if◌then◌else◌, ℤ, List, length, Option, Some, None}
 use Rattle.flac_predict.specs.declared.choosing.Choice.{Choice}
+use Rattle.flac_predict.specs.declared.choosing.Choice.TheVariants.{Fixed}
 use Rattle.flac_predict.specs.declared.choosing.Weighed.{Weighed}
+use Rattle.flac_predict.specs.Fixed.{fixed_residuals}
+use Rattle.flac_predict.specs.Rice.{best_parameter}
 use Rattle.flac_predict.specs.Least.{least_of}
-use Rattle.flac_predict.specs.Choice.{candidate_bits}
-
-abbrev pub choice_of : Option Weighed → Option Choice
-choice_of None = None
-choice_of (Some held) = Some held.choice
+use Rattle.flac_predict.specs.Choice.{candidate_bits, best_candidate}
 
 -- the bits are those of the choice
 abbrev pub IsWeighed : ℕ → List ℤ → Weighed → Type 0
 IsWeighed depth samples held = held.bits ≡ candidate_bits depth samples held.choice
 
-abbrev pub IsWeighedIfSome : ℕ → List ℤ → Option Weighed → Type 0
-IsWeighedIfSome depth samples None = Unit {0}
-IsWeighedIfSome depth samples (Some held) = IsWeighed depth samples held
+-- the least of some offers has at least so many bits
+abbrev pub IsAtLeast : ℕ → List ℤ → ℕ → Option Choice → Type 0
+IsAtLeast depth samples bits None = Unit {0}
+IsAtLeast depth samples bits (Some least) = bits ≤ candidate_bits depth samples least
 
--- what is held is the least of the offers
-pub record Holds (depth : ℕ) (samples : List ℤ) (held : Option Weighed) (offers : List Choice) : Type 0 where
-  pub least : choice_of held ≡ least_of (candidate_bits depth samples) offers
-  pub weighed : IsWeighedIfSome depth samples held
+-- what is held is the least of the offers; or it has the bits of the bound, and none of the offers has fewer
+pub record Holds (depth : ℕ) (samples : List ℤ) (held : Weighed) (offers : List Choice) : Type 0 where
+  pub bound : ℕ
+  pub reached : candidate_bits depth samples (best_candidate depth samples) < bound
+  pub small : bound ≤ 200000
+  pub within : held.bits ≤ bound
+  pub least : held.bits < bound → Some held.choice ≡ least_of (candidate_bits depth samples) offers
+  pub weighed : held.bits < bound → IsWeighed depth samples held
+  pub none : bound ≤ held.bits → IsAtLeast depth samples bound (least_of (candidate_bits depth samples) offers)
 
 -- the one that is held, unless the next has fewer bits
-abbrev pub lighter_of : Option Weighed → Weighed → Weighed
-lighter_of None next = next
-lighter_of (Some held) next = if nat_lt next.bits held.bits then next else held
-
--- something is held that has at most so many bits
-abbrev pub IsNoMore : Option Weighed → ℕ → Type 0
-IsNoMore None bits = ⊥
-IsNoMore (Some held) bits = held.bits ≤ bits
+abbrev pub lighter_of : Weighed → Weighed → Weighed
+lighter_of held next = if nat_lt next.bits held.bits then next else held
 
 -- the offer of a choice, or none where what is held has no more bits
-abbrev pub IsOffer : ℕ → List ℤ → Option Weighed → Choice → Option Weighed → Type 0
-IsOffer depth samples held choice None = IsNoMore held (candidate_bits depth samples choice)
+abbrev pub IsOffer : ℕ → List ℤ → Weighed → Choice → Option Weighed → Type 0
+IsOffer depth samples held choice None = held.bits ≤ candidate_bits depth samples choice
 IsOffer depth samples held choice (Some next) = (next.choice ≡ choice) × IsWeighed depth samples next
+
+-- the offer of a fixed order
+pub record IsOfOrder (depth : ℕ) (samples : List ℤ) (order : ℕ) (offer : Weighed) : Type 0 where
+  pub small : order ≤ 4
+  pub enough : order < length samples
+  pub choice : offer.choice ≡ Fixed order (best_parameter (fixed_residuals order samples))
+  pub weighed : IsWeighed depth samples offer

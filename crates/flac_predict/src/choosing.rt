@@ -1,17 +1,17 @@
 // The writer's choice for one channel.
 
-ghost use Rattle.std.specs.Prelude.{◌≡◌, ◌+◌, ◌*◌, ◌≤◌, ◌<◌, ◌++◌, length, IsTrue, MatchOption};
+ghost use Rattle.std.specs.Prelude.{◌≡◌, ◌+◌, ◌*◌, ◌≤◌, ◌<◌, ◌++◌, [], length, MatchOption};
 ghost use Rattle.flac_predict.specs.Samples.{AreInside, sample_at};
 ghost use Rattle.flac_predict.specs.Fixed.{fixed_residuals};
 ghost use Rattle.flac_predict.specs.Linear.{linear_residuals};
 ghost use Rattle.flac_predict.specs.Bank.{bank_set};
 ghost use Rattle.flac_predict.specs.Rice.{best_parameter, residual_bits, AreCodable};
 ghost use Rattle.flac_predict.specs.Choice.{best_candidate, candidate_bits, IsCandidate, all_are, constant_offer, fixed_offers, linear_offers};
-ghost use Rattle.flac_predict.specs.Weighing.{Holds, IsNoMore, IsOffer, lighter_of};
+ghost use Rattle.flac_predict.specs.Weighing.{Holds, IsOffer, IsOfOrder, lighter_of};
 
-use crate::linear::residual_bank;
-use crate::rice::{guess, least_bits, rice_near, shifted_sum};
-use crate::{LinearSet, bank, residual_fixed};
+use crate::linear::sum_of_set;
+use crate::rice::{guess, rice_near, shifted_sum, sum_reaching};
+use crate::{LinearSet, bank, residual_fixed, rice_bits};
 
 /// How a channel's samples are put into a subframe (RFC 9639, section 9.2).
 #[derive(Clone, Copy, Debug, Drop, PartialEq, Eq)]
@@ -63,8 +63,10 @@ pub fn weigh(samples: &[i32], bits: u32, work: &mut [i32]) -> Weighed
     ensures candidate { IsCandidate samples.now result.choice }
     ensures most { result.bits ≤ 8 + length samples.now * bits }
 {
-    let held = with_constant(samples, bits);
-    let held = with_fixed(held, samples, bits, work);
+    let likely = likely(samples, bits, work);
+    let held = nothing_held(samples, bits, likely);
+    let held = with_constant(held, samples, bits);
+    let held = with_fixed(held, likely, samples, bits, work);
     let held = with_linear(held, samples, bits, work);
     let verbatim = Weighed {
         choice: Choice::Verbatim,
@@ -74,12 +76,90 @@ pub fn weigh(samples: &[i32], bits: u32, work: &mut [i32]) -> Weighed
 }
 
 // The one that is held, unless the next takes fewer bits.
-fn lighter(held: Option<Weighed>, next: Weighed) -> Weighed
+fn lighter(held: Weighed, next: Weighed) -> Weighed
     ensures { result ≡ lighter_of held next }
 {
-    match held {
-        None => next,
-        Some(held) => { if next.bits < held.bits { next } else { held } }
+    if next.bits < held.bits { next } else { held }
+}
+
+// A fixed order, and its offer.
+#[derive(Clone, Copy, Drop)]
+struct FixedOffer {
+    order: u32,
+    offer: Weighed,
+}
+
+// A fixed order whose residuals are small, as far as the first samples tell.
+fn likely_order(samples: &[i32], work: &mut [i32]) -> u32
+    requires some { 1 ≤ length samples.now }
+    requires count { length samples.now ≤ 4096 }
+    requires samples { AreInside 25 samples.now }
+    requires room { length work.old ≡ length samples.now }
+    ensures order { result ≤ 4 }
+    ensures enough { result < length samples.now }
+{
+    let first = &samples[..samples.len().min(512)];
+    let mut likely = 0;
+    let mut least = u64::MAX;
+    for order in 0..5u32 {
+        if first.len() <= order as usize {
+            return likely;
+        }
+        let sum = first_sum(order, first, work);
+        if sum < least {
+            likely = order;
+            least = sum;
+        }
+    }
+    likely
+}
+
+// The sum of an order's residuals.
+fn first_sum(order: u32, samples: &[i32], work: &mut [i32]) -> u64
+    requires order { order ≤ 4 }
+    requires enough { order < length samples.now }
+    requires count { length samples.now ≤ 4096 }
+    requires samples { AreInside 25 samples.now }
+    requires room { length samples.now ≤ length work.old }
+{
+    let residuals = &mut work[..samples.len() - order as usize];
+    residual_fixed(order, samples, residuals);
+    shifted_sum(residuals, 0)
+}
+
+// The offer of a fixed order that is likely to have few bits.
+fn likely(samples: &[i32], bits: u32, work: &mut [i32]) -> FixedOffer
+    requires some { 1 ≤ length samples.now }
+    requires count { length samples.now ≤ 4096 }
+    requires high { bits ≤ 25 }
+    requires samples { AreInside 25 samples.now }
+    requires room { length work.old ≡ length samples.now }
+    ensures { IsOfOrder bits samples.now result.order result.offer }
+{
+    let order = likely_order(samples, work);
+    let residuals = &mut work[..samples.len() - order as usize];
+    residual_fixed(order, samples, residuals);
+    let (parameter, rice) = rice_bits(residuals);
+    FixedOffer {
+        order,
+        offer: Weighed {
+            choice: Choice::Fixed { order, parameter },
+            bits: 8 + order as u64 * bits as u64 + rice,
+        },
+    }
+}
+
+// What is held before the first offer: it has more bits than the best candidate.
+fn nothing_held(samples: &[i32], bits: u32, likely: FixedOffer) -> Weighed
+    requires count { length samples.now ≤ 4096 }
+    requires high { bits ≤ 25 }
+    requires likely { IsOfOrder bits samples.now likely.order likely.offer }
+    ensures { Holds bits samples.now result [] }
+{
+    let verbatim = 8 + samples.len() as u64 * bits as u64;
+    Weighed {
+        choice: Choice::Verbatim,
+        bits: verbatim.min(likely.offer.bits) + 1,
     }
 }
 
@@ -97,73 +177,77 @@ fn are_equal(samples: &[i32]) -> bool
     true
 }
 
-fn with_constant(samples: &[i32], bits: u32) -> Option<Weighed>
+fn with_constant(held: Weighed, samples: &[i32], bits: u32) -> Weighed
     requires some { 1 ≤ length samples.now }
     requires high { bits ≤ 25 }
+    requires held { Holds bits samples.now held [] }
     ensures { Holds bits samples.now result (constant_offer samples.now) }
 {
     if !are_equal(samples) {
-        return None;
+        return held;
     }
-    Some(Weighed {
+    let constant = Weighed {
         choice: Choice::Constant,
         bits: 8 + bits as u64,
-    })
+    };
+    lighter(held, constant)
 }
 
 // The offers of the fixed orders behind what is held.
 fn with_fixed(
-    held: Option<Weighed>,
+    held: Weighed,
+    likely: FixedOffer,
     samples: &[i32],
     bits: u32,
     work: &mut [i32],
-) -> Option<Weighed>
+) -> Weighed
     requires count { length samples.now ≤ 4096 }
     requires high { bits ≤ 25 }
     requires samples { AreInside 25 samples.now }
     requires room { length work.old ≡ length samples.now }
+    requires likely { IsOfOrder bits samples.now likely.order likely.offer }
     requires held { Holds bits samples.now held (constant_offer samples.now) }
     ensures { Holds bits samples.now result (constant_offer samples.now ++ fixed_offers samples.now 5) }
 {
     let mut held = held;
     for order in 0..5u32 {
-        held = with_order(held, order, samples, bits, work);
+        held = with_order(held, likely, order, samples, bits, work);
     }
     held
 }
 
 fn with_order(
-    held: Option<Weighed>,
+    held: Weighed,
+    likely: FixedOffer,
     order: u32,
     samples: &[i32],
     bits: u32,
     work: &mut [i32],
-) -> Option<Weighed>
+) -> Weighed
     requires order { order ≤ 4 }
     requires count { length samples.now ≤ 4096 }
     requires high { bits ≤ 25 }
     requires samples { AreInside 25 samples.now }
     requires room { length work.old ≡ length samples.now }
+    requires likely { IsOfOrder bits samples.now likely.order likely.offer }
     requires held { Holds bits samples.now held (constant_offer samples.now ++ fixed_offers samples.now order) }
     ensures { Holds bits samples.now result (constant_offer samples.now ++ fixed_offers samples.now (order + 1)) }
 {
     if samples.len() <= order as usize {
         return held;
     }
+    if order == likely.order {
+        return lighter(held, likely.offer);
+    }
     match fixed(held, order, samples, bits, work) {
         None => held,
-        Some(next) => Some(lighter(held, next)),
+        Some(next) => lighter(held, next),
     }
 }
 
 // The offer of a fixed order, or none where what is held has no more bits.
-fn fixed(
-    held: Option<Weighed>,
-    order: u32,
-    samples: &[i32],
-    bits: u32,
-    work: &mut [i32],
-) -> Option<Weighed>
+fn fixed(held: Weighed, order: u32, samples: &[i32], bits: u32, work: &mut [i32]) -> Option<Weighed>
+    requires light { held.bits ≤ 200000 }
     requires order { order ≤ 4 }
     requires enough { order < length samples.now }
     requires count { length samples.now ≤ 4096 }
@@ -181,27 +265,18 @@ fn fixed(
     })
 }
 
-// Whether something is held that has at most so many bits.
-fn is_no_more(held: Option<Weighed>, bits: u64) -> bool
-    ensures { IsTrue result → IsNoMore held bits }
-{
-    match held {
-        None => false,
-        Some(held) => held.bits <= bits,
-    }
-}
-
 // The best parameter of residuals, and their bits behind a head of so many; none where what is held surely has no more.
-fn offered(held: Option<Weighed>, residuals: &[i32], head: u64) -> Option<(u32, u64)>
+fn offered(held: Weighed, residuals: &[i32], head: u64) -> Option<(u32, u64)>
+    requires light { held.bits ≤ 200000 }
     requires count { length residuals.now ≤ 4096 }
     requires codable { AreCodable residuals.now }
     requires head { head ≤ 10000 }
-    ensures { MatchOption result (IsNoMore held (head + residual_bits (best_parameter residuals.now) residuals.now))
+    ensures { MatchOption result (held.bits ≤ head + residual_bits (best_parameter residuals.now) residuals.now)
         (λ found. (found.0 ≡ best_parameter residuals.now) × (found.1 ≡ head + residual_bits found.0 residuals.now)) }
 {
     let sum = shifted_sum(residuals, 0);
     let count = residuals.len() as u64;
-    if is_no_more(held, head + least_bits(sum, count)) {
+    if sum >= sum_reaching(held.bits.saturating_sub(head), count) {
         return None;
     }
     let (parameter, bits) = rice_near(residuals, guess(sum, count));
@@ -209,12 +284,7 @@ fn offered(held: Option<Weighed>, residuals: &[i32], head: u64) -> Option<(u32, 
 }
 
 // The offers of the bank's sets behind what is held.
-fn with_linear(
-    held: Option<Weighed>,
-    samples: &[i32],
-    bits: u32,
-    work: &mut [i32],
-) -> Option<Weighed>
+fn with_linear(held: Weighed, samples: &[i32], bits: u32, work: &mut [i32]) -> Weighed
     requires count { length samples.now ≤ 4096 }
     requires high { bits ≤ 25 }
     requires samples { AreInside 25 samples.now }
@@ -230,13 +300,7 @@ fn with_linear(
     held
 }
 
-fn with_set(
-    held: Option<Weighed>,
-    before: u32,
-    samples: &[i32],
-    bits: u32,
-    work: &mut [i32],
-) -> Option<Weighed>
+fn with_set(held: Weighed, before: u32, samples: &[i32], bits: u32, work: &mut [i32]) -> Weighed
     requires before { before < 8 }
     requires count { length samples.now ≤ 4096 }
     requires high { bits ≤ 25 }
@@ -253,19 +317,20 @@ fn with_set(
     }
     match linear(held, before + 1, &set, samples, bits, work) {
         None => held,
-        Some(next) => Some(lighter(held, next)),
+        Some(next) => lighter(held, next),
     }
 }
 
 // The offer of a set, or none where what is held has no more bits.
 fn linear(
-    held: Option<Weighed>,
+    held: Weighed,
     number: u32,
     set: &LinearSet,
     samples: &[i32],
     bits: u32,
     work: &mut [i32],
 ) -> Option<Weighed>
+    requires light { held.bits ≤ 200000 }
     requires low { 1 ≤ number }
     requires number { number ≤ 8 }
     requires set { set.now ≡ bank_set number }
@@ -277,9 +342,8 @@ fn linear(
     ensures { IsOffer bits samples.now held (Choice.Linear number (best_parameter (linear_residuals set.now samples.now))) result }
 {
     let residuals = &mut work[..samples.len() - set.order as usize];
-    residual_bank(number, samples, residuals);
     let head = 17 + set.order as u64 * bits as u64 + set.order as u64 * set.precision as u64;
-    let (parameter, bits) = offered(held, residuals, head)?;
+    let (parameter, bits) = offered_by(held, number, set.order, samples, residuals, head)?;
     Some(Weighed {
         choice: Choice::Linear {
             set: number,
@@ -287,4 +351,33 @@ fn linear(
         },
         bits,
     })
+}
+
+// The best parameter of a set's residuals, and their bits behind a head of so many; none where what is held surely has no
+// more. The residuals stand in `out` then.
+fn offered_by(
+    held: Weighed,
+    number: u32,
+    order: u32,
+    samples: &[i32],
+    out: &mut [i32],
+    head: u64,
+) -> Option<(u32, u64)>
+    requires light { held.bits ≤ 200000 }
+    requires low { 1 ≤ number }
+    requires number { number ≤ 8 }
+    requires order { order ≡ (bank_set number).order }
+    requires count { length samples.now ≤ 4096 }
+    requires samples { AreInside 25 samples.now }
+    requires room { length out.old + order ≡ length samples.now }
+    requires head { head ≤ 10000 }
+    ensures { let residuals = linear_residuals (bank_set number) samples.now in
+        MatchOption result (held.bits ≤ head + residual_bits (best_parameter residuals) residuals)
+        (λ found. (found.0 ≡ best_parameter residuals) × (found.1 ≡ head + residual_bits found.0 residuals)) }
+{
+    let count = out.len() as u64;
+    let most = sum_reaching(held.bits.saturating_sub(head), count);
+    let sum = sum_of_set(number, order as usize, samples, out, most)?;
+    let (parameter, bits) = rice_near(out, guess(sum, count));
+    Some((parameter, head + bits))
 }

@@ -1,11 +1,14 @@
 // Linear prediction (RFC 9639, section 9.2.6).
 
-ghost use Rattle.std.specs.Prelude.{◌≡◌, ◌+◌, ◌≤◌, ◌<◌, ◌+ℤ◌, ◌-ℤ◌, ◌*ℤ◌, IsTrue, length, take, drop};
+ghost use Rattle.std.specs.Prelude.{◌≡◌, ◌+◌, ◌^◌, ◌≤◌, ◌<◌, ◌+ℤ◌, ◌-ℤ◌, ◌*ℤ◌, IsTrue, length, take, drop, MatchOption, IfSome};
+ghost use Rattle.std.specs.List.{sum_by};
+ghost use Rattle.flac_predict.specs.Rice.{quotient};
 ghost use Rattle.flac_predict.specs.Samples.{all_inside, AreInside, IsInside};
 ghost use Rattle.flac_predict.specs.Linear.{IsLinearSet, weighted, predicted, linear_residuals, linear_restored};
 ghost use Rattle.flac_predict.specs.Bank.{IsOfBank, bank_set};
 
 use crate::inside::is_inside;
+use crate::rice::shifted_sum;
 use crate::{LinearSet, bank};
 
 /// Writes the residuals of samples from -2^24 to 2^24 - 1 under a set of the bank: one for each sample behind the first
@@ -40,6 +43,41 @@ pub(crate) fn residual_bank(number: u32, samples: &[i32], out: &mut [i32])
         7 => residuals_of(&bank(7), samples, out),
         _ => residuals_of(&bank(8), samples, out),
     }
+}
+
+// The sum of a set's residuals as numbers that aren't negative, written part after part; none where it is at least `most`.
+pub(crate) fn sum_of_set(
+    number: u32,
+    order: usize,
+    samples: &[i32],
+    out: &mut [i32],
+    most: u64,
+) -> Option<u64>
+    requires low { 1 ≤ number }
+    requires number { number ≤ 8 }
+    requires order { order ≡ (bank_set number).order }
+    requires count { length samples.now ≤ 4096 }
+    requires samples { AreInside 25 samples.now }
+    requires room { length out.old + order ≡ length samples.now }
+    ensures sum { MatchOption result (most ≤ sum_by (quotient 0) (linear_residuals (bank_set number) samples.now))
+        (λ sum. sum ≡ sum_by (quotient 0) out.new) }
+    ensures residuals { IfSome result (λ _. out.new ≡ linear_residuals (bank_set number) samples.now) }
+    ensures small { IfSome result (λ sum. sum ≤ 2 ^ 44) }
+{
+    let count = out.len();
+    let mut sum = 0;
+    let mut done = 0;
+    while done < count {
+        let end = count.min(done + 256);
+        let part = &mut out[done..end];
+        residual_bank(number, &samples[done..end + order], part);
+        sum += shifted_sum(part, 0);
+        if sum >= most {
+            return None;
+        }
+        done = end;
+    }
+    Some(sum)
 }
 
 #[inline(always)]

@@ -98,18 +98,18 @@ pub(crate) fn guess(sum: u64, count: u64) -> u32
     (mean + 1).ilog2().min(30)
 }
 
-// At most what so many residuals of this sum take under any parameter.
-pub(crate) fn least_bits(sum: u64, count: u64) -> u64
-    requires sum { sum ≤ 2 ^ 44 }
+// A sum from which on so many residuals take at least so many bits under any parameter.
+pub(crate) fn sum_reaching(bits: u64, count: u64) -> u64
+    requires bits { bits ≤ 200000 }
     requires count { count ≤ 4096 }
-    ensures least { (k : ℕ) → k ≤ 30 → result ≤ 10 + count * k + (sum + count) / 2 ^ k }
-    ensures small { result ≤ 2 ^ 45 }
+    ensures { (sum k : ℕ) → result ≤ sum → k ≤ 30 → bits ≤ 10 + count * k + (sum + count) / 2 ^ k }
 {
-    let mut least = 10 + sum + count;
+    let mut reaching = 0u64;
     for at in 0..31u32 {
-        least = least.min(10 + count * at as u64 + ((sum + count) >> at));
+        let rest = bits.saturating_sub(10 + count * at as u64);
+        reaching = reaching.max(rest << at);
     }
-    least
+    reaching.saturating_sub(count)
 }
 
 // The bits under a parameter.

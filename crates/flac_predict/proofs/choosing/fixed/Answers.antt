@@ -1,8 +1,7 @@
-use Rattle.std.proofs.Common.{◌≡◌, ℕ, ℤ, List, refl, ap, ◌∙◌, subst}
+use Rattle.std.proofs.Common.{◌≡◌, ◌≤◌, ℕ, ℤ, List, refl, ap, ◌∙◌, subst}
 use Rattle.flac_predict.specs.declared.choosing.Choice.TheVariants.{Fixed}
 use Rattle.flac_predict.specs.Fixed.{fixed_residuals}
 use Rattle.flac_predict.specs.Rice.{best_parameter, residual_bits}
-use Rattle.flac_predict.specs.Weighing.{IsNoMore}
 use Rattle.flac_predict.proofs.ChoiceCode.{fixed_weighs}
 use Rattle.flac_predict.proofs.choosing.fixed.Goals as goal
 
@@ -13,7 +12,7 @@ returns-in_err-parameter c =
     let p = best_parameter (fixed_residuals c.args.order c.args.samples.now) in
     let e : rice ≡ residual_bits p (fixed_residuals c.args.order c.args.samples.now) = ap (λ (l : List ℤ). residual_bits (best_parameter l) l) c.residual_fixed.ensures.residuals in
     rw c.from_residual.ensures
-    (subst (IsNoMore c.args.held) (fixed_weighs c.args.bits c.args.samples.now c.args.order p _ rice e refl) c.in_err-parameter.ensures)
+    (subst (λ (n : ℕ). c.args.held.bits ≤ n) (fixed_weighs c.args.bits c.args.samples.now c.args.order p _ rice e refl) c.in_err-parameter.ensures)
 
 pub returns : goal.returns
 returns c =
