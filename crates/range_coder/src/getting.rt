@@ -9,7 +9,7 @@ ghost use Rattle.range_coder.specs.Symbol.{IsCodable, symbol_choices, overlong_c
 use crate::{BadSymbol, Decoder, Table};
 
 /// The exponents from here on are rare.
-const SHORT: usize = 10;
+const SHORT: usize = 12;
 
 /// Reads a number with a set.
 pub(crate) fn get_value(
@@ -95,6 +95,12 @@ fn get_usual(decoder: &mut Decoder<'_>, table: &Table, set: &mut [u8]) -> Result
     }
     if !get_more(decoder, table, set, 9) {
         return Ok(get_rest(decoder, table, set, 9, true));
+    }
+    if !get_more(decoder, table, set, 10) {
+        return Ok(get_rest(decoder, table, set, 10, true));
+    }
+    if !get_more(decoder, table, set, 11) {
+        return Ok(get_rest(decoder, table, set, 11, true));
     }
     for many in SHORT..31 {
         if !get_more(decoder, table, set, many) {

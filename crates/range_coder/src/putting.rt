@@ -208,8 +208,16 @@ fn put_behind(
         return put_tail(window, bytes, table, set, 9, magnitude, negative, signed);
     }
     put_one(window, bytes, table, set, 9)?;
+    if magnitude < 2048 {
+        return put_tail(window, bytes, table, set, 10, magnitude, negative, signed);
+    }
+    put_one(window, bytes, table, set, 10)?;
+    if magnitude < 4096 {
+        return put_tail(window, bytes, table, set, 11, magnitude, negative, signed);
+    }
+    put_one(window, bytes, table, set, 11)?;
     let exponent = exponent_of(magnitude);
-    for count in 10..exponent {
+    for count in 12..exponent {
         put_one(window, bytes, table, set, count)?;
     }
     put_tail(

@@ -291,6 +291,99 @@ returns-in_err-put_one-10-clause-err c =
     let h9 = one_put _ _ _ _ _ _ _ _ _ h8 refl c.in_ok-put_one-9.ensures.ok c.put_one-9.ensures.live in
     on_err _ (behind_stopped _ _ _ _ _ _ _ 9 c.args.magnitude c.args.negative c.args.signed h9 (exponent_more _ 9 (omega arith) c.if-magnitude-lt1024.false) c.in_err-put_one-10.ensures.err)
 
+pub returns-then-magnitude-lt2048-clause-ok : goal.returns-then-magnitude-lt2048-clause-ok
+returns-then-magnitude-lt2048-clause-ok c =
+    let h0 = no_ones_put _ _ _ c.requires.live in
+    let h1 = one_put _ _ _ _ _ _ _ _ _ h0 refl c.in_ok-put_one.ensures.ok c.put_one.ensures.live in
+    let h2 = one_put _ _ _ _ _ _ _ _ _ h1 refl c.in_ok-put_one-2.ensures.ok c.put_one-2.ensures.live in
+    let h3 = one_put _ _ _ _ _ _ _ _ _ h2 refl c.in_ok-put_one-3.ensures.ok c.put_one-3.ensures.live in
+    let h4 = one_put _ _ _ _ _ _ _ _ _ h3 refl c.in_ok-put_one-4.ensures.ok c.put_one-4.ensures.live in
+    let h5 = one_put _ _ _ _ _ _ _ _ _ h4 refl c.in_ok-put_one-5.ensures.ok c.put_one-5.ensures.live in
+    let h6 = one_put _ _ _ _ _ _ _ _ _ h5 refl c.in_ok-put_one-6.ensures.ok c.put_one-6.ensures.live in
+    let h7 = one_put _ _ _ _ _ _ _ _ _ h6 refl c.in_ok-put_one-7.ensures.ok c.put_one-7.ensures.live in
+    let h8 = one_put _ _ _ _ _ _ _ _ _ h7 refl c.in_ok-put_one-8.ensures.ok c.put_one-8.ensures.live in
+    let h9 = one_put _ _ _ _ _ _ _ _ _ h8 refl c.in_ok-put_one-9.ensures.ok c.put_one-9.ensures.live in
+    let h10 = one_put _ _ _ _ _ _ _ _ _ h9 refl c.in_ok-put_one-10.ensures.ok c.put_one-10.ensures.live in
+    behind_put c.put_tail-then-magnitude-lt2048.result _ _ _ _ _ _ _ 10 c.args.magnitude c.args.negative c.args.signed h10 (exponent_is _ 10 c.if-magnitude-lt1024.false c.if-magnitude-lt2048.true (omega arith)) c.put_tail-then-magnitude-lt2048.ensures.ok
+
+pub returns-then-magnitude-lt2048-clause-err : goal.returns-then-magnitude-lt2048-clause-err
+returns-then-magnitude-lt2048-clause-err c =
+    let h0 = no_ones_put _ _ _ c.requires.live in
+    let h1 = one_put _ _ _ _ _ _ _ _ _ h0 refl c.in_ok-put_one.ensures.ok c.put_one.ensures.live in
+    let h2 = one_put _ _ _ _ _ _ _ _ _ h1 refl c.in_ok-put_one-2.ensures.ok c.put_one-2.ensures.live in
+    let h3 = one_put _ _ _ _ _ _ _ _ _ h2 refl c.in_ok-put_one-3.ensures.ok c.put_one-3.ensures.live in
+    let h4 = one_put _ _ _ _ _ _ _ _ _ h3 refl c.in_ok-put_one-4.ensures.ok c.put_one-4.ensures.live in
+    let h5 = one_put _ _ _ _ _ _ _ _ _ h4 refl c.in_ok-put_one-5.ensures.ok c.put_one-5.ensures.live in
+    let h6 = one_put _ _ _ _ _ _ _ _ _ h5 refl c.in_ok-put_one-6.ensures.ok c.put_one-6.ensures.live in
+    let h7 = one_put _ _ _ _ _ _ _ _ _ h6 refl c.in_ok-put_one-7.ensures.ok c.put_one-7.ensures.live in
+    let h8 = one_put _ _ _ _ _ _ _ _ _ h7 refl c.in_ok-put_one-8.ensures.ok c.put_one-8.ensures.live in
+    let h9 = one_put _ _ _ _ _ _ _ _ _ h8 refl c.in_ok-put_one-9.ensures.ok c.put_one-9.ensures.live in
+    let h10 = one_put _ _ _ _ _ _ _ _ _ h9 refl c.in_ok-put_one-10.ensures.ok c.put_one-10.ensures.live in
+    behind_refused c.put_tail-then-magnitude-lt2048.result _ _ _ _ _ _ _ 10 c.args.magnitude c.args.negative c.args.signed h10 (exponent_is _ 10 c.if-magnitude-lt1024.false c.if-magnitude-lt2048.true (omega arith)) c.put_tail-then-magnitude-lt2048.ensures.err
+
+pub returns-in_err-put_one-11-clause-err : goal.returns-in_err-put_one-11-clause-err
+returns-in_err-put_one-11-clause-err c =
+    let h0 = no_ones_put _ _ _ c.requires.live in
+    let h1 = one_put _ _ _ _ _ _ _ _ _ h0 refl c.in_ok-put_one.ensures.ok c.put_one.ensures.live in
+    let h2 = one_put _ _ _ _ _ _ _ _ _ h1 refl c.in_ok-put_one-2.ensures.ok c.put_one-2.ensures.live in
+    let h3 = one_put _ _ _ _ _ _ _ _ _ h2 refl c.in_ok-put_one-3.ensures.ok c.put_one-3.ensures.live in
+    let h4 = one_put _ _ _ _ _ _ _ _ _ h3 refl c.in_ok-put_one-4.ensures.ok c.put_one-4.ensures.live in
+    let h5 = one_put _ _ _ _ _ _ _ _ _ h4 refl c.in_ok-put_one-5.ensures.ok c.put_one-5.ensures.live in
+    let h6 = one_put _ _ _ _ _ _ _ _ _ h5 refl c.in_ok-put_one-6.ensures.ok c.put_one-6.ensures.live in
+    let h7 = one_put _ _ _ _ _ _ _ _ _ h6 refl c.in_ok-put_one-7.ensures.ok c.put_one-7.ensures.live in
+    let h8 = one_put _ _ _ _ _ _ _ _ _ h7 refl c.in_ok-put_one-8.ensures.ok c.put_one-8.ensures.live in
+    let h9 = one_put _ _ _ _ _ _ _ _ _ h8 refl c.in_ok-put_one-9.ensures.ok c.put_one-9.ensures.live in
+    let h10 = one_put _ _ _ _ _ _ _ _ _ h9 refl c.in_ok-put_one-10.ensures.ok c.put_one-10.ensures.live in
+    on_err _ (behind_stopped _ _ _ _ _ _ _ 10 c.args.magnitude c.args.negative c.args.signed h10 (exponent_more _ 10 (omega arith) c.if-magnitude-lt2048.false) c.in_err-put_one-11.ensures.err)
+
+pub returns-then-magnitude-lt4096-clause-ok : goal.returns-then-magnitude-lt4096-clause-ok
+returns-then-magnitude-lt4096-clause-ok c =
+    let h0 = no_ones_put _ _ _ c.requires.live in
+    let h1 = one_put _ _ _ _ _ _ _ _ _ h0 refl c.in_ok-put_one.ensures.ok c.put_one.ensures.live in
+    let h2 = one_put _ _ _ _ _ _ _ _ _ h1 refl c.in_ok-put_one-2.ensures.ok c.put_one-2.ensures.live in
+    let h3 = one_put _ _ _ _ _ _ _ _ _ h2 refl c.in_ok-put_one-3.ensures.ok c.put_one-3.ensures.live in
+    let h4 = one_put _ _ _ _ _ _ _ _ _ h3 refl c.in_ok-put_one-4.ensures.ok c.put_one-4.ensures.live in
+    let h5 = one_put _ _ _ _ _ _ _ _ _ h4 refl c.in_ok-put_one-5.ensures.ok c.put_one-5.ensures.live in
+    let h6 = one_put _ _ _ _ _ _ _ _ _ h5 refl c.in_ok-put_one-6.ensures.ok c.put_one-6.ensures.live in
+    let h7 = one_put _ _ _ _ _ _ _ _ _ h6 refl c.in_ok-put_one-7.ensures.ok c.put_one-7.ensures.live in
+    let h8 = one_put _ _ _ _ _ _ _ _ _ h7 refl c.in_ok-put_one-8.ensures.ok c.put_one-8.ensures.live in
+    let h9 = one_put _ _ _ _ _ _ _ _ _ h8 refl c.in_ok-put_one-9.ensures.ok c.put_one-9.ensures.live in
+    let h10 = one_put _ _ _ _ _ _ _ _ _ h9 refl c.in_ok-put_one-10.ensures.ok c.put_one-10.ensures.live in
+    let h11 = one_put _ _ _ _ _ _ _ _ _ h10 refl c.in_ok-put_one-11.ensures.ok c.put_one-11.ensures.live in
+    behind_put c.put_tail-then-magnitude-lt4096.result _ _ _ _ _ _ _ 11 c.args.magnitude c.args.negative c.args.signed h11 (exponent_is _ 11 c.if-magnitude-lt2048.false c.if-magnitude-lt4096.true (omega arith)) c.put_tail-then-magnitude-lt4096.ensures.ok
+
+pub returns-then-magnitude-lt4096-clause-err : goal.returns-then-magnitude-lt4096-clause-err
+returns-then-magnitude-lt4096-clause-err c =
+    let h0 = no_ones_put _ _ _ c.requires.live in
+    let h1 = one_put _ _ _ _ _ _ _ _ _ h0 refl c.in_ok-put_one.ensures.ok c.put_one.ensures.live in
+    let h2 = one_put _ _ _ _ _ _ _ _ _ h1 refl c.in_ok-put_one-2.ensures.ok c.put_one-2.ensures.live in
+    let h3 = one_put _ _ _ _ _ _ _ _ _ h2 refl c.in_ok-put_one-3.ensures.ok c.put_one-3.ensures.live in
+    let h4 = one_put _ _ _ _ _ _ _ _ _ h3 refl c.in_ok-put_one-4.ensures.ok c.put_one-4.ensures.live in
+    let h5 = one_put _ _ _ _ _ _ _ _ _ h4 refl c.in_ok-put_one-5.ensures.ok c.put_one-5.ensures.live in
+    let h6 = one_put _ _ _ _ _ _ _ _ _ h5 refl c.in_ok-put_one-6.ensures.ok c.put_one-6.ensures.live in
+    let h7 = one_put _ _ _ _ _ _ _ _ _ h6 refl c.in_ok-put_one-7.ensures.ok c.put_one-7.ensures.live in
+    let h8 = one_put _ _ _ _ _ _ _ _ _ h7 refl c.in_ok-put_one-8.ensures.ok c.put_one-8.ensures.live in
+    let h9 = one_put _ _ _ _ _ _ _ _ _ h8 refl c.in_ok-put_one-9.ensures.ok c.put_one-9.ensures.live in
+    let h10 = one_put _ _ _ _ _ _ _ _ _ h9 refl c.in_ok-put_one-10.ensures.ok c.put_one-10.ensures.live in
+    let h11 = one_put _ _ _ _ _ _ _ _ _ h10 refl c.in_ok-put_one-11.ensures.ok c.put_one-11.ensures.live in
+    behind_refused c.put_tail-then-magnitude-lt4096.result _ _ _ _ _ _ _ 11 c.args.magnitude c.args.negative c.args.signed h11 (exponent_is _ 11 c.if-magnitude-lt2048.false c.if-magnitude-lt4096.true (omega arith)) c.put_tail-then-magnitude-lt4096.ensures.err
+
+pub returns-in_err-put_one-12-clause-err : goal.returns-in_err-put_one-12-clause-err
+returns-in_err-put_one-12-clause-err c =
+    let h0 = no_ones_put _ _ _ c.requires.live in
+    let h1 = one_put _ _ _ _ _ _ _ _ _ h0 refl c.in_ok-put_one.ensures.ok c.put_one.ensures.live in
+    let h2 = one_put _ _ _ _ _ _ _ _ _ h1 refl c.in_ok-put_one-2.ensures.ok c.put_one-2.ensures.live in
+    let h3 = one_put _ _ _ _ _ _ _ _ _ h2 refl c.in_ok-put_one-3.ensures.ok c.put_one-3.ensures.live in
+    let h4 = one_put _ _ _ _ _ _ _ _ _ h3 refl c.in_ok-put_one-4.ensures.ok c.put_one-4.ensures.live in
+    let h5 = one_put _ _ _ _ _ _ _ _ _ h4 refl c.in_ok-put_one-5.ensures.ok c.put_one-5.ensures.live in
+    let h6 = one_put _ _ _ _ _ _ _ _ _ h5 refl c.in_ok-put_one-6.ensures.ok c.put_one-6.ensures.live in
+    let h7 = one_put _ _ _ _ _ _ _ _ _ h6 refl c.in_ok-put_one-7.ensures.ok c.put_one-7.ensures.live in
+    let h8 = one_put _ _ _ _ _ _ _ _ _ h7 refl c.in_ok-put_one-8.ensures.ok c.put_one-8.ensures.live in
+    let h9 = one_put _ _ _ _ _ _ _ _ _ h8 refl c.in_ok-put_one-9.ensures.ok c.put_one-9.ensures.live in
+    let h10 = one_put _ _ _ _ _ _ _ _ _ h9 refl c.in_ok-put_one-10.ensures.ok c.put_one-10.ensures.live in
+    let h11 = one_put _ _ _ _ _ _ _ _ _ h10 refl c.in_ok-put_one-11.ensures.ok c.put_one-11.ensures.live in
+    on_err _ (behind_stopped _ _ _ _ _ _ _ 11 c.args.magnitude c.args.negative c.args.signed h11 (exponent_more _ 11 (omega arith) c.if-magnitude-lt4096.false) c.in_err-put_one-12.ensures.err)
+
 pub loop-count-init : goal.loop-count-init
 loop-count-init c =
     let h0 = no_ones_put _ _ _ c.requires.live in
@@ -304,24 +397,26 @@ loop-count-init c =
     let h8 = one_put _ _ _ _ _ _ _ _ _ h7 refl c.in_ok-put_one-8.ensures.ok c.put_one-8.ensures.live in
     let h9 = one_put _ _ _ _ _ _ _ _ _ h8 refl c.in_ok-put_one-9.ensures.ok c.put_one-9.ensures.live in
     let h10 = one_put _ _ _ _ _ _ _ _ _ h9 refl c.in_ok-put_one-10.ensures.ok c.put_one-10.ensures.live in
-    (h10, c.put_one-10.ensures.window)
+    let h11 = one_put _ _ _ _ _ _ _ _ _ h10 refl c.in_ok-put_one-11.ensures.ok c.put_one-11.ensures.live in
+    let h12 = one_put _ _ _ _ _ _ _ _ _ h11 refl c.in_ok-put_one-12.ensures.ok c.put_one-12.ensures.live in
+    (h12, c.put_one-12.ensures.window)
 
 pub loop-count-preserved : goal.loop-count-preserved
 loop-count-preserved c =
-    (one_put _ _ _ _ _ _ _ _ _ c.loop-count.invariant.0 refl c.in_ok-put_one-11.ensures.ok c.put_one-in-loop-count.ensures.live, c.put_one-in-loop-count.ensures.window)
+    (one_put _ _ _ _ _ _ _ _ _ c.loop-count.invariant.0 refl c.in_ok-put_one-13.ensures.ok c.put_one-in-loop-count.ensures.live, c.put_one-in-loop-count.ensures.window)
 
-pub returns-in_err-put_one-11-clause-err : goal.returns-in_err-put_one-11-clause-err
-returns-in_err-put_one-11-clause-err c =
-    on_err _ (behind_stopped _ _ _ _ _ _ _ _ c.args.magnitude c.args.negative c.args.signed c.loop-count.invariant.0 (omega arith) c.in_err-put_one-11.ensures.err)
+pub returns-in_err-put_one-13-clause-err : goal.returns-in_err-put_one-13-clause-err
+returns-in_err-put_one-13-clause-err c =
+    on_err _ (behind_stopped _ _ _ _ _ _ _ _ c.args.magnitude c.args.negative c.args.signed c.loop-count.invariant.0 (omega arith) c.in_err-put_one-13.ensures.err)
 
 pub returns-clause-ok : goal.returns-clause-ok
 returns-clause-ok c =
-    let more : 9 < exponent_of c.args.magnitude = exponent_more _ 9 (omega arith) c.if-magnitude-lt1024.false in
+    let more : 11 < exponent_of c.args.magnitude = exponent_more _ 11 (omega arith) c.if-magnitude-lt4096.false in
     let all : c.loop-count.count ≡ c.exponent_of-exponent.result = omega (arith, more, c.loop-count.auto.count-end) in
     behind_put c.put_tail-2.result _ _ _ _ _ _ _ _ c.args.magnitude c.args.negative c.args.signed (as_many_put _ _ _ _ _ _ _ all c.loop-count.invariant.0) c.exponent_of-exponent.ensures.exponent c.put_tail-2.ensures.ok
 
 pub returns-clause-err : goal.returns-clause-err
 returns-clause-err c =
-    let more : 9 < exponent_of c.args.magnitude = exponent_more _ 9 (omega arith) c.if-magnitude-lt1024.false in
+    let more : 11 < exponent_of c.args.magnitude = exponent_more _ 11 (omega arith) c.if-magnitude-lt4096.false in
     let all : c.loop-count.count ≡ c.exponent_of-exponent.result = omega (arith, more, c.loop-count.auto.count-end) in
     behind_refused c.put_tail-2.result _ _ _ _ _ _ _ _ c.args.magnitude c.args.negative c.args.signed (as_many_put _ _ _ _ _ _ _ all c.loop-count.invariant.0) c.exponent_of-exponent.ensures.exponent c.put_tail-2.ensures.err
