@@ -3,12 +3,12 @@ use Rattle.std.proofs.Common.{◌≡◌, ℕ, List, length, Option, Some, None, 
 use Rattle.std.specs.Option.{option_map}
 use Rattle.std.specs.FinMap.{get}
 use Rattle.std.proofs.lemmas.List.Elements.{Contains-push}
-use Rattle.shelf_core.specs.Told.{Told, IsTold, HasFile, length_of, Pending, IsPending, with_pending}
+use Rattle.shelf_core.specs.Told.{Told, IsTold, HasFile, length_of, Unsealed, IsUnsealedIn, with_unsealed}
 
-pub created_is_pending : (pending : Pending) (name : List ℕ) → IsPending (with_pending pending name) name
-unfolding with_pending IsPending
-created_is_pending None name = tt
-created_is_pending (Some names) name = Contains-push names name
+pub created_is_unsealed : (unsealed_before : Unsealed) (name : List ℕ) → IsUnsealedIn (with_unsealed unsealed_before name) name
+unfolding with_unsealed IsUnsealedIn
+created_is_unsealed None name = tt
+created_is_unsealed (Some names) name = Contains-push names name
 
 pub measured_is_there : (told : Told) (name : List ℕ) (n : ℕ) → (IsTold told → Some n ≡ length_of told name) → HasFile told name
 unfolding length_of HasFile IsTold

@@ -1,7 +1,7 @@
 // Packages that are checked and restored.
 
 ghost use Rattle.std.specs.Prelude.{OnOk};
-ghost use Rattle.shelf_core.specs.Told.{HasFile};
+ghost use Rattle.shelf_core.specs.Reads.{Has};
 
 use crate::shelf::{PACKAGE, ROOT, shelf_of};
 use crate::stop::Stop;
@@ -62,7 +62,7 @@ fn give_files<S: Shelf>(
     shelf: &mut S,
     restorer: &mut Restorer,
 ) -> Result<u128, FileError>
-    requires { HasFile (S.files shelf.old) restorer.old.pkg }
+    requires { Has S.Shelf shelf.old restorer.old.pkg }
 {
     let mut bytes = 0u128;
     for _ in 0..restorer.entries().len() {
@@ -107,7 +107,7 @@ fn given_line<S: Shelf>(
     shelf: &mut S,
     restorer: &mut Restorer,
 ) -> Result<String, Stop>
-    requires { HasFile (S.files shelf.old) restorer.old.pkg }
+    requires { Has S.Shelf shelf.old restorer.old.pkg }
 {
     let files = restorer.entries().len();
     match give_files(alloc, shelf, restorer) {

@@ -1,7 +1,7 @@
 // Files on a shelf in memory.
 
 ghost use Rattle.std.specs.Prelude.{OnOk};
-ghost use Rattle.shelf_core.specs.Told.{HasFile, IsPending};
+ghost use Rattle.shelf_core.specs.Reads.{Has, IsUnsealed};
 
 use crate::stop::Stop;
 use cook_bits::{Bytes, Name};
@@ -15,9 +15,9 @@ pub const PACKAGE: &str = "p";
 pub const ROOT: &str = "d";
 
 // Creates a file, which is then open for writing.
-#[tactic(auto, using(crate::proofs::ShelfLaws::created_is_pending))]
+#[tactic(auto, using(crate::proofs::ShelfLaws::created_is_unsealed))]
 fn create<S: Shelf>(shelf: &mut S, name: &str) -> Result<(), Stop>
-    ensures { OnOk result (IsPending (S.unsealed shelf.new) name.now) }
+    ensures { OnOk result (IsUnsealed S.Shelf shelf.new name.now) }
 {
     match shelf.create(name) {
         Ok(()) => Ok(()),
@@ -43,7 +43,7 @@ pub fn shelf_of(alloc: Global, package: &[u8]) -> Result<CalmShelf, Stop> {
 
 /// The length of a file that is there.
 pub fn len_of<S: Shelf>(shelf: &mut S, name: &str) -> Result<u64, Stop>
-    ensures { OnOk result (HasFile (S.files shelf.new) name.now) }
+    ensures { OnOk result (Has S.Shelf shelf.new name.now) }
 {
     match shelf.len(name)? {
         Some(len) => Ok(len),

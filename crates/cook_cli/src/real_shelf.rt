@@ -87,11 +87,11 @@ fn length(system: &HostRuntime, name: &str) -> io::Result<Option<u64>> {
     }
 }
 
-#[tactic(auto, using(crate::proofs::NothingTold::grew), unfolding(shelf_core::specs::Told::IsTold, shelf_core::specs::Told::HasFile, shelf_core::specs::Told::IsFree, shelf_core::specs::Told::IsPending, shelf_core::specs::Told::IsAtRest, shelf_core::specs::Told::with_file, shelf_core::specs::Told::with_pending, shelf_core::specs::Told::without_pending))]
+#[tactic(auto, using(crate::proofs::NothingTold::grew), unfolding(shelf_core::specs::Told::IsTold, shelf_core::specs::Told::HasFile, shelf_core::specs::Told::IsFree, shelf_core::specs::Told::IsUnsealedIn, shelf_core::specs::Told::IsNotUnsealed, shelf_core::specs::Told::with_file, shelf_core::specs::Told::with_unsealed, shelf_core::specs::Told::without_unsealed))]
 impl Shelf for RealShelf {
     ghost use Rattle.std.specs.Prelude.{None};
     ghost use Rattle.std.proofs.Common.{refl};
-    ghost use Rattle.shelf_core.specs.Untold.{has_file};
+    ghost use Rattle.shelf_core.specs.Untold.{has_file, no_content};
 
     ghost files = { λ shelf. None };
 
@@ -103,7 +103,9 @@ impl Shelf for RealShelf {
 
     ghost told_together = { λ shelf. refl };
 
-    ghost pending_is_there = { λ shelf name told pending. has_file name };
+    ghost contents_are_bytes = { λ shelf. no_content };
+
+    ghost unsealed_is_there = { λ shelf name told unsealed. has_file name };
 
     fn list(&mut self, root: &str) -> Result<Vec<Entry>, ShelfError> {
         let done = walk::list(&self.system, root);

@@ -14,7 +14,7 @@ fn is_listed(entries: &[Entry], name: &str, plain: bool) -> bool {
     entries.iter().any(|entry| entry.name.as_str() == name && entry.plain == plain)
 }
 
-#[tactic(auto, unfolding(shelf_core::specs::Told::IsPending, shelf_core::specs::Told::HasFile))]
+#[tactic(auto, unfolding(shelf_core::specs::Told::IsUnsealedIn, shelf_core::specs::Told::HasFile))]
 #[test]
 fn a_file_is_created_once_grows_and_is_read_in_pieces(rt: HostRuntime) -> Result<(), Fail> {
     let _ = fs::remove_dir_all(&rt, "written");
@@ -101,7 +101,7 @@ fn long_bytes(alloc: Global) -> Result<Vec<u8>, AllocError> {
 }
 
 // Makes a whole file.
-#[tactic(auto, using(shelf_core::proofs::FileLaws::file_laws))]
+#[tactic(auto, using(shelf_core::specs::FileLaws::file_laws))]
 fn put<S: Shelf>(shelf: &mut S, name: &str, bytes: &[u8]) -> Result<(), Fail> {
     shelf.create(name)?;
     shelf.append(name, bytes)?;

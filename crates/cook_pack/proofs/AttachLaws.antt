@@ -3,16 +3,16 @@ use Rattle.std.proofs.Common.{◌≡◌, ℕ, Bool, List, ◌++◌, ◌≤◌, l
 use Rattle.shelf_core.specs.Reads.{Tells}
 use Rattle.shelf_core.specs.Told.{Told, IsTold, content, grown, GrewPartly, IsApart}
 use Rattle.shelf_core.specs.declared.shelf.Shelf.{Ghosts}
-use Rattle.shelf_core.proofs.PieceLaws.{grown-if_told, grown-both, GrewPartly-first, GrewPartly-second, content-while_grown, IsTold-while_grown}
+use Rattle.shelf_core.specs.PieceLaws.{grown-if_told, grown-both, GrewPartly-first, GrewPartly-second, content-while_grown, IsTold-while_grown}
 use Rattle.shelf_parts.specs.Parts.{part_of}
-use Rattle.shelf_parts.proofs.PartLaws.{part-whole}
+use Rattle.shelf_parts.specs.PartLaws.{part-whole}
 use Rattle.md5.specs.Md5.{md5}
 use Rattle.cook_pack.specs.Planned.{Planned}
 use Rattle.cook_pack.specs.Stops.{StopsFor}
 use Rattle.cook_pack.specs.declared.error.PackError.{PackError}
 use Rattle.cook_pack.specs.declared.error.PackError.TheVariants.{Refused, InTheWay, Changed, Missing, Failed, NoMemory}
 use Rattle.cook_pack.specs.Pieces.{attached_head, attached_file}
-use Rattle.cook_pack.proofs.PieceLaws.{attached_file-is}
+use Rattle.cook_pack.specs.PieceLaws.{attached_file-is}
 
 pub attached-whole : (told : Told) (name from : List ℕ) (side : Bool) (uid len : ℕ) → (IsTold told → len ≡ length (content told from)) → IsTold told
     → attached_head name side uid len ++ content told from ≡ attached_file name side uid (content told from)

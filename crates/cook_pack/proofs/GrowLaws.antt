@@ -5,8 +5,8 @@ use Rattle.shelf_core.specs.Reads.{Tells, Has}
 use Rattle.shelf_core.specs.Told.{HasFile, grown}
 use Rattle.shelf_core.specs.Writes.{Grew, GrewInPart}
 use Rattle.shelf_core.specs.declared.shelf.Shelf.{Ghosts}
-use Rattle.shelf_core.proofs.FileLaws.{HasFile-with_file}
-use Rattle.shelf_core.proofs.PieceLaws.{GrewPartly-nothing, GrewPartly-first, GrewPartly-second, grown-both, IsTold-while_grown}
+use Rattle.shelf_core.specs.FileLaws.{HasFile-with_file}
+use Rattle.shelf_core.specs.PieceLaws.{GrewPartly-nothing, GrewPartly-first, GrewPartly-second, grown-both, IsTold-while_grown}
 
 -- what holds anyway holds at an error
 pub on_err : {T E P : Type 0} (r : Result T E) → P → OnErr r P

@@ -9,7 +9,7 @@ use Rattle.shelf_core.specs.Writes.{Created, Grew, GrewInPart}
 use Rattle.shelf_core.specs.declared.shelf.Shelf.{Ghosts}
 use Rattle.shelf_core.specs.declared.shelf.ShelfError.{ShelfError}
 use Rattle.shelf_core.specs.declared.shelf.ShelfError.TheVariants as shelf
-use Rattle.shelf_core.proofs.FileLaws.{grown-with_file}
+use Rattle.shelf_core.specs.FileLaws.{grown-with_file}
 use Rattle.cook_pack.specs.Package.{package_of}
 use Rattle.cook_pack.specs.Planned.{Planned}
 use Rattle.cook_pack.specs.Stops.{IsLeft, StopsFor, LeavesFor, IsNotPacked, pack_error}

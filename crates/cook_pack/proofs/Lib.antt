@@ -1,4 +1,3 @@
-pub mod PieceLaws
 pub mod GrowLaws
 pub mod AttachLaws
 pub mod OffenceLaws

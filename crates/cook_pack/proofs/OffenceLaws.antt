@@ -7,32 +7,32 @@ use Rattle.cook_bits.specs.Names.{is_relative_name, is_same_name, holds_folder_o
 use Rattle.shelf_core.specs.declared.shelf.Entry.{Entry}
 use Rattle.cook_pack.specs.declared.error.RefuseWhy.{RefuseWhy}
 use Rattle.cook_pack.specs.declared.error.RefuseWhy.TheVariants.{NotPlain, BadName, Twice, UnderFile, TooManyFiles, TooLarge, Unbuilt}
-use Rattle.cook_pack.specs.Film.{is_film}
-use Rattle.cook_pack.specs.Offence.{first_broken, broken_by_listing, broken_by_file, ends_with_name}
+use Rattle.cook_pack.specs.Film.{is_film_or_sound}
+use Rattle.cook_pack.specs.Offence.{first_offence, broken_by_listing, broken_by_file, ends_with_name}
 use Rattle.cook_pack.specs.Entries.{name_of, entry_names, entry_at, fault_by_listing, fault_by_file}
 
-pub first_broken-append : (rules others : List (Bool × RefuseWhy)) → first_broken (rules ++ others) ≡ option_or (first_broken rules) (first_broken others)
-unfolding first_broken
-first_broken-append [] others = refl
-first_broken-append ((true, why) ∷ rules) others = refl
-first_broken-append ((false, why) ∷ rules) others = first_broken-append rules others
+pub first_offence-append : (rules others : List (Bool × RefuseWhy)) → first_offence (rules ++ others) ≡ option_or (first_offence rules) (first_offence others)
+unfolding first_offence
+first_offence-append [] others = refl
+first_offence-append ((true, why) ∷ rules) others = refl
+first_offence-append ((false, why) ∷ rules) others = first_offence-append rules others
 
 -- ---- by a file
 
-file_faults : (large film : Bool) → first_broken ((large, TooLarge) ∷ (film, Unbuilt) ∷ []) ≡ cond large (Some TooLarge) (cond film (Some Unbuilt) None)
-unfolding first_broken
+file_faults : (large film : Bool) → first_offence ((large, TooLarge) ∷ (film, Unbuilt) ∷ []) ≡ cond large (Some TooLarge) (cond film (Some Unbuilt) None)
+unfolding first_offence
 file_faults true film = refl
 file_faults false true = refl
 file_faults false false = refl
 
-pub by_file : (total : ℕ) (name : List ℕ) (len : ℕ) (large film : Bool) → nat_lt (2 ^ 50) (total + len) ≡ large → is_film name ≡ film → fault_by_file total name len ≡ cond large (Some TooLarge) (cond film (Some Unbuilt) None)
+pub by_file : (total : ℕ) (name : List ℕ) (len : ℕ) (large film : Bool) → nat_lt (2 ^ 50) (total + len) ≡ large → is_film_or_sound name ≡ film → fault_by_file total name len ≡ cond large (Some TooLarge) (cond film (Some Unbuilt) None)
 unfolding fault_by_file broken_by_file
 by_file total name len large film e f = rw (e, f) (file_faults large film)
 
 pub by_file-large : (total : ℕ) (name : List ℕ) (len : ℕ) → total ≤ 2 ^ 50 → 2 ^ 50 - total < len → fault_by_file total name len ≡ Some TooLarge
-by_file-large total name len small large = by_file total name len true (is_film name) (grind (arith, nat_tests)) refl
+by_file-large total name len small large = by_file total name len true (is_film_or_sound name) (grind (arith, nat_tests)) refl
 
-pub by_file-small : (total : ℕ) (name : List ℕ) (len : ℕ) (film : Bool) → total ≤ 2 ^ 50 → len ≤ 2 ^ 50 - total → is_film name ≡ film → fault_by_file total name len ≡ cond film (Some Unbuilt) None
+pub by_file-small : (total : ℕ) (name : List ℕ) (len : ℕ) (film : Bool) → total ≤ 2 ^ 50 → len ≤ 2 ^ 50 - total → is_film_or_sound name ≡ film → fault_by_file total name len ≡ cond film (Some Unbuilt) None
 by_file-small total name len film small fits e = by_file total name len false film (grind (arith, nat_tests)) e
 
 -- a file that breaks no rule leaves the sum small
@@ -40,14 +40,14 @@ pub by_file-none : (total : ℕ) (name : List ℕ) (len : ℕ) → fault_by_file
 by_file-none total name len none = by_cases (nat_lt (2 ^ 50) (total + len)) refl
   where
     by_cases : (large : Bool) → nat_lt (2 ^ 50) (total + len) ≡ large → total + len ≤ 2 ^ 50
-    by_cases true e = let broken = by_file total name len true (is_film name) e refl in absurd (cc)
+    by_cases true e = let broken = by_file total name len true (is_film_or_sound name) e refl in absurd (cc)
     by_cases false e = grind (arith, nat_tests)
 
 -- ---- by the listing
 
-listing_faults : (plain relative twice under many : Bool) → first_broken ((not plain, NotPlain) ∷ (not relative, BadName) ∷ (twice, Twice) ∷ (under, UnderFile) ∷ (many, TooManyFiles) ∷ [])
+listing_faults : (plain relative twice under many : Bool) → first_offence ((not plain, NotPlain) ∷ (not relative, BadName) ∷ (twice, Twice) ∷ (under, UnderFile) ∷ (many, TooManyFiles) ∷ [])
     ≡ cond plain (cond relative (cond twice (Some Twice) (cond under (Some UnderFile) (cond many (Some TooManyFiles) None))) (Some BadName)) (Some NotPlain)
-unfolding first_broken
+unfolding first_offence
 listing_faults false relative twice under many = refl
 listing_faults true false twice under many = refl
 listing_faults true true true under many = refl

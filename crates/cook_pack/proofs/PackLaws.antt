@@ -1,20 +1,22 @@
 -- Laws of the side data as an attachment, of the records behind it, and of a package that is appended in parts.
-use Rattle.std.proofs.Common.{◌≡◌, ℕ, suc, ◌+◌, ◌*◌, ◌<◌, ◌≤◌, ◌^◌, true, List, [], ◌∷◌, ◌++◌, length, map, All, sum_by, codes, refl, sym, ap, ◌∙◌, subst, arith, lit≤}
+use Rattle.std.proofs.Common.{◌≡◌, ℕ, suc, ◌+◌, ◌*◌, ◌<◌, ◌≤◌, ◌^◌, true, List, [], ◌∷◌, ◌++◌, length, map, All, sum_by, refl, sym, ap, ◌∙◌, subst, arith, lit≤}
 use Rattle.std.proofs.lemmas.List.{length-map}
 use Rattle.std.proofs.lemmas.List.Sums.{sum_by-cons}
+use Rattle.matroska_names.specs.declared.texts.TheConstants.{SIDE_NAME}
 use Rattle.cook_bits.specs.Names.{File, IsRelativeName}
 use Rattle.shelf_core.specs.Told.{Told, IsTold, content}
 use Rattle.reversal.specs.declared.record.FileRecord.{FileRecord}
 use Rattle.reversal.specs.SideData.{AreRecords, AreNames, names_of, side_data_len, side_data_of}
-use Rattle.reversal.proofs.Lengths.{names_long}
+use Rattle.reversal.specs.Lengths.{names_long}
 use Rattle.ebml_core.specs.Element.{element, head_of, uint_element, uint_bytes, size_bytes, shortest_size, byte_count, least_from}
-use Rattle.ebml_core.proofs.Heads.{length-head_of-le}
+use Rattle.ebml_core.specs.Heads.{length-head_of-le}
+use Rattle.matroska_names.specs.declared.ids.TheConstants.{ATTACHMENTS}
 use Rattle.cook_pack.specs.declared.planned_file.PlannedFile.{PlannedFile}
 use Rattle.cook_pack.specs.Attaching.{AreTheRecords, file_of, planned_files}
 use Rattle.cook_pack.specs.Pieces.{attached_head, attached_file, attachments_head, header_bytes, ebml_content, info_content}
 use Rattle.cook_pack.specs.Planned.{Planned, IsSound, names_planned}
 use Rattle.cook_pack.specs.Package.{attached_from, attachments_bytes, attachments_of, others_of, other_record, package_of, records_of, side_attached}
-use Rattle.cook_pack.proofs.PieceLaws.{attached_file-is}
+use Rattle.cook_pack.specs.PieceLaws.{attached_file-is}
 use Rattle.cook_pack.proofs.PlannedLaws.{short_name, others-all}
 
 short_step : (len total count : ℕ) → len ≤ 1024 → total ≤ 1051 * count → 27 + len + total ≤ 1051 * suc count
@@ -30,10 +32,10 @@ unfolding side_data_len
 side_data_len-le names relative few = omega (arith, short_sum names relative)
 
 -- the head and the side data are the attachment
-pub side_attached-is : (uid len : ℕ) (records : List FileRecord) (head side : List ℕ) → head ≡ attached_head (codes "cook.rev") true uid len → len ≡ length side → side ≡ side_data_of records → head ++ side ≡ side_attached uid records
+pub side_attached-is : (uid len : ℕ) (records : List FileRecord) (head side : List ℕ) → head ≡ attached_head SIDE_NAME.now true uid len → len ≡ length side → side ≡ side_data_of records → head ++ side ≡ side_attached uid records
 side_attached-is uid len records head side is long spelled =
-    ap (λ h. h ++ side) (is ∙ ap (attached_head (codes "cook.rev") true uid) long)
-    ∙ sym (attached_file-is (codes "cook.rev") true uid side) ∙ ap (attached_file (codes "cook.rev") true uid) spelled
+    ap (λ h. h ++ side) (is ∙ ap (attached_head SIDE_NAME.now true uid) long)
+    ∙ sym (attached_file-is SIDE_NAME.now true uid side) ∙ ap (attached_file SIDE_NAME.now true uid) spelled
 
 -- ---- the records
 
@@ -76,7 +78,7 @@ attachments-is files uid records numbered is = λ i. attached_from 1 (others_of 
 -- the head and the attachments are the element
 pub attachments_bytes-is : (files : List File) (content : ℕ) (head : List ℕ) → head ≡ attachments_head content → content ≡ length (attachments_of files) → head ++ attachments_of files ≡ attachments_bytes files
 unfolding attachments_bytes element
-attachments_bytes-is files content head is long = ap (λ h. h ++ attachments_of files) (is ∙ ap (head_of 0x1941A469) long)
+attachments_bytes-is files content head is long = ap (λ h. h ++ attachments_of files) (is ∙ ap (head_of ATTACHMENTS) long)
 
 -- the header and the Attachments are the package
 pub package-is : (files : List File) (rate : ℕ) (header : List ℕ) → header ≡ header_bytes → header ++ attachments_bytes files ≡ package_of files rate
@@ -91,4 +93,4 @@ pub short_header-is : (header : List ℕ) → header ≡ header_bytes → length
 short_header-is header is = rw is short_header
 
 pub short_attachments_head : (content : ℕ) (head : List ℕ) → head ≡ attachments_head content → length head ≤ 12
-short_attachments_head content head is = rw is (length-head_of-le 0x1941A469 content (omega arith))
+short_attachments_head content head is = rw is (length-head_of-le ATTACHMENTS content (omega arith))

@@ -19,14 +19,14 @@ use Rattle.shelf_core.specs.declared.shelf.Entry.{Entry}
 use Rattle.shelf_core.specs.declared.shelf.Shelf.{Ghosts}
 use Rattle.cook_pack.specs.declared.error.RefuseWhy.{RefuseWhy}
 use Rattle.cook_pack.specs.declared.error.RefuseWhy.TheVariants.{BadName, UnderFile, TooManyFiles, TooLarge, Unbuilt}
-use Rattle.cook_pack.specs.Film.{is_film}
+use Rattle.cook_pack.specs.Film.{is_film_or_sound}
 use Rattle.cook_pack.specs.declared.error.PackError.{PackError}
 use Rattle.cook_pack.specs.declared.error.PackError.TheVariants.{Refused, InTheWay, Changed, Missing, Failed, NoMemory}
-use Rattle.cook_pack.specs.Offence.{Listed, listed, names_of, first_broken, broken_by_listing, broken_by_file, broken_rules, or_later, offence_from, offence_of_directory, ends_with_name, IsOfPlainFile}
+use Rattle.cook_pack.specs.Offence.{Listed, listed, names_of, first_offence, broken_by_listing, broken_by_file, broken_rules, or_later, offence_from, offence_of_directory, ends_with_name, IsOfPlainFile}
 use Rattle.cook_pack.specs.declared.planned_file.PlannedFile.{PlannedFile}
 use Rattle.cook_pack.specs.Planned.{IsBefore, IsSound, Fits, IsNotPlanned, directory_of, lengths_planned, names_planned, planned_file}
 use Rattle.cook_pack.specs.Entries.{Admits, name_of, entry_names, AreInOrder, entry_at, fault_by_listing, fault_by_file, IsBarred, Lists, NamesEntry, planned}
-use Rattle.cook_pack.proofs.OffenceLaws.{first_broken-append, by_listing, by_file, by_file-none, IsAdmitted, admitted, ends_with_name-some}
+use Rattle.cook_pack.proofs.OffenceLaws.{first_offence-append, by_listing, by_file, by_file-none, IsAdmitted, admitted, ends_with_name-some}
 use Rattle.std.proofs.lemmas.List.Elements.{Contains-get_or}
 use Rattle.reversal.specs.SideData.{AreNames}
 use Rattle.shelf_core.proofs.UnderLaws.{under-ascending, length_of-under}
@@ -154,18 +154,18 @@ entry_at-file files index = get_or-mapped plain_entry files index no_file
 fault_at : List File → ℕ → Option RefuseWhy
 fault_at files index = option_or (fault_by_listing (plain_entries files) index) (fault_by_file (sum (map (λ file. length file.1) (take index files))) (get_or files index no_file).0 (length (get_or files index no_file).1))
 
-rules_at : (files : List File) (index : ℕ) → first_broken (broken_rules (map listed files) (take index (map listed files)) (listed (get_or files index no_file))) ≡ fault_at files index
+rules_at : (files : List File) (index : ℕ) → first_offence (broken_rules (map listed files) (take index (map listed files)) (listed (get_or files index no_file))) ≡ fault_at files index
 unfolding fault_at fault_by_listing fault_by_file
 rules_at files index =
     let file = get_or files index no_file in
     let before : names_of (take index (map listed files)) ≡ take index (entry_names (plain_entries files)) = sym (take-map (λ (e : Listed). e.name) index (map listed files)) ∙ ap (take index) (names-same files) in
     let total : sum_by (λ (e : Listed). length e.bytes) (take index (map listed files)) ≡ sum (map (λ (file : File). length file.1) (take index files)) = ap (sum_by (λ (e : Listed). length e.bytes)) (take-map listed index files) ∙ total-same (take index files) in
-    first_broken-append _ _
-    ∙ ap (λ o. option_or o (first_broken (broken_by_file (sum_by (λ (e : Listed). length e.bytes) (take index (map listed files))) file.0 (length file.1))))
-    (ap (λ names. first_broken (broken_by_listing names (names_of (take index (map listed files))) file.0 true)) (names-same files)
-    ∙ ap (λ names. first_broken (broken_by_listing (entry_names (plain_entries files)) names file.0 true)) before
-    ∙ ap (λ (e : Entry). first_broken (broken_by_listing (entry_names (plain_entries files)) (take index (entry_names (plain_entries files))) e.name e.plain)) (sym (entry_at-file files index)))
-    ∙ ap (λ n. option_or (first_broken (broken_by_listing (entry_names (plain_entries files)) (take index (entry_names (plain_entries files))) (entry_at (plain_entries files) index).name (entry_at (plain_entries files) index).plain)) (first_broken (broken_by_file n file.0 (length file.1)))) total
+    first_offence-append _ _
+    ∙ ap (λ o. option_or o (first_offence (broken_by_file (sum_by (λ (e : Listed). length e.bytes) (take index (map listed files))) file.0 (length file.1))))
+    (ap (λ names. first_offence (broken_by_listing names (names_of (take index (map listed files))) file.0 true)) (names-same files)
+    ∙ ap (λ names. first_offence (broken_by_listing (entry_names (plain_entries files)) names file.0 true)) before
+    ∙ ap (λ (e : Entry). first_offence (broken_by_listing (entry_names (plain_entries files)) (take index (entry_names (plain_entries files))) e.name e.plain)) (sym (entry_at-file files index)))
+    ∙ ap (λ n. option_or (first_offence (broken_by_listing (entry_names (plain_entries files)) (take index (entry_names (plain_entries files))) (entry_at (plain_entries files) index).name (entry_at (plain_entries files) index).plain)) (first_offence (broken_by_file n file.0 (length file.1)))) total
 
 offence_at : (files : List File) (index : ℕ) → index < length files
     → offence_from (map listed files) (take index (map listed files)) (drop index (map listed files))
@@ -248,7 +248,7 @@ told-of_plain told root index total name len why inside broken =
     let plain = ap (λ (e : Entry). e.plain) (entry_at-file files index) in
     let listing = by_listing (plain_entries files) index true _ false _ _ (omega (arith, count_files files)) plain refl (once-told told root index inside) refl refl in
     let file = by_file total name len _ _ refl refl in
-    of_plain (is_relative_name (entry_at (plain_entries files) index).name) (holds_folder_of (entry_names (plain_entries files)) (entry_at (plain_entries files) index).name) (nat_le 1000000 index) (nat_lt (2 ^ 50) (total + len)) (is_film name) why
+    of_plain (is_relative_name (entry_at (plain_entries files) index).name) (holds_folder_of (entry_names (plain_entries files)) (entry_at (plain_entries files) index).name) (nat_le 1000000 index) (nat_lt (2 ^ 50) (total + len)) (is_film_or_sound name) why
     (rw (← listing, ← file) broken)
 
 pub stopped-is : {S : Type 0} (g : Ghosts S) (old between new : S) (root : List ℕ) (entries : List Entry) (files : List PlannedFile) (total index : ℕ) (error : PackError) → OnlyReads g old between → Lists g old root entries → index < length entries

@@ -10,8 +10,8 @@ use Rattle.shelf_core.specs.Reads.{Has}
 use Rattle.shelf_core.specs.Told.{Told, IsTold, HasFile, IsApart, content, grown, no_file}
 use Rattle.shelf_core.specs.Writes.{Grew, GrewInPart}
 use Rattle.shelf_core.specs.declared.shelf.Shelf.{Ghosts}
-use Rattle.shelf_core.proofs.FileLaws.{grown-nothing, HasFile-with_file, IsApart-with_file, IsTold-with_file}
-use Rattle.shelf_core.proofs.PieceLaws.{content-while_grown, IsTold-while_grown}
+use Rattle.shelf_core.specs.FileLaws.{grown-nothing, HasFile-with_file, IsApart-with_file, IsTold-with_file}
+use Rattle.shelf_core.specs.PieceLaws.{content-while_grown, IsTold-while_grown}
 use Rattle.reversal.specs.declared.record.FileRecord.{FileRecord}
 use Rattle.reversal.specs.SideData.{HasShape}
 use Rattle.cook_pack.specs.declared.planned_file.PlannedFile.{PlannedFile}

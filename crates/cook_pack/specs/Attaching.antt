@@ -1,12 +1,14 @@
 -- Planned files with their contents, when they can be attached to a package that is being written, and their records.
-use Rattle.std.specs.Prelude.{◌≡◌, ℕ, ◌^◌, ◌≤◌, List, length, map, All}
+use Rattle.std.specs.Prelude.{◌≡◌, ℕ, ◌^◌, ◌≤◌, false, List, length, map, All}
 use Rattle.cook_bits.specs.Names.{File, full_name}
 use Rattle.reversal.specs.declared.record.FileRecord.{FileRecord}
 use Rattle.reversal.specs.SideData.{HasShape, names_of}
+use Rattle.shelf_core.specs.Reads.{bytes_of}
 use Rattle.shelf_core.specs.Told.{Told, IsTold, HasFile, IsApart, content}
 use Rattle.shelf_core.specs.declared.shelf.Shelf.{Ghosts}
 use Rattle.cook_pack.specs.declared.planned_file.PlannedFile.{PlannedFile}
 use Rattle.cook_pack.specs.Package.{attached_from, attachments_bytes, attachments_of, other_record, others_of, package_of}
+use Rattle.cook_pack.specs.Pieces.{attached_file}
 use Rattle.cook_pack.specs.Planned.{Planned, IsSound}
 
 -- ---- contents
@@ -25,6 +27,10 @@ file_on g shelf root file = file_of (g.files shelf) root file
 
 abbrev pub files_on : {S : Type 0} → Ghosts S → S → Planned → List File
 files_on g shelf plan = planned_files (g.files shelf) plan
+
+-- a file as an attachment of this name and number
+abbrev pub attached_on : {S : Type 0} → Ghosts S → S → List ℕ → List ℕ → ℕ → List ℕ
+attached_on g shelf from name uid = attached_file name false uid (bytes_of g shelf from)
 
 -- the other files of a plan as attachments
 abbrev pub others_on : {S : Type 0} → Ghosts S → S → Planned → List ℕ

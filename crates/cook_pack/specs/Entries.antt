@@ -11,7 +11,7 @@ use Rattle.shelf_core.specs.Reads.{Tells}
 use Rattle.shelf_core.specs.Told.{length_of}
 use Rattle.shelf_core.specs.declared.shelf.Shelf.{Ghosts}
 use Rattle.shelf_core.specs.declared.shelf.Entry.{Entry}
-use Rattle.cook_pack.specs.Offence.{first_broken, broken_by_listing, broken_by_file}
+use Rattle.cook_pack.specs.Offence.{first_offence, broken_by_listing, broken_by_file}
 use Rattle.cook_pack.specs.declared.error.RefuseWhy.{RefuseWhy}
 use Rattle.cook_pack.specs.declared.error.PackError.{PackError}
 use Rattle.cook_pack.specs.declared.error.PackError.TheVariants.{Refused, InTheWay, Changed, Missing, Failed, NoMemory}
@@ -35,11 +35,11 @@ entry_at entries index = slice_index_or entries index (record { name = []; plain
 -- the first rule that the entry at a place breaks by the listing
 unfoldable pub fault_by_listing : List Entry → ℕ → Option RefuseWhy
 fault_by_listing entries index =
-    first_broken (broken_by_listing (entry_names entries) (take index (entry_names entries)) (entry_at entries index).name (entry_at entries index).plain)
+    first_offence (broken_by_listing (entry_names entries) (take index (entry_names entries)) (entry_at entries index).name (entry_at entries index).plain)
 
 -- the first rule that a file breaks by its bytes
 unfoldable pub fault_by_file : ℕ → List ℕ → ℕ → Option RefuseWhy
-fault_by_file total name len = first_broken (broken_by_file total name len)
+fault_by_file total name len = first_offence (broken_by_file total name len)
 
 -- the entries of a listing are the files under a root, where the shelf tells them
 abbrev pub Lists : {S : Type 0} → Ghosts S → S → List ℕ → List Entry → Type 0

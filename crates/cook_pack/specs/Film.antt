@@ -7,5 +7,5 @@ abbrev pub ending : List ℕ → List ℕ
 ending name = drop (length name - 4) name
 
 -- a frame ends in `.dpx` and a wave in `.wav`, in any ASCII case
-unfoldable pub is_film : List ℕ → Bool
-is_film name = str_eq_ignore_ascii_case (ending name) (codes ".dpx") || str_eq_ignore_ascii_case (ending name) (codes ".wav")
+unfoldable pub is_film_or_sound : List ℕ → Bool
+is_film_or_sound name = str_eq_ignore_ascii_case (ending name) (codes ".dpx") || str_eq_ignore_ascii_case (ending name) (codes ".wav")

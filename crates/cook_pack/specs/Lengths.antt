@@ -1,6 +1,7 @@
 -- How long the attachments of a package are, by the plan alone (RFC 9559, section 5.1.6).
-use Rattle.std.specs.Prelude.{ℕ, ◌+◌, Bool, true, false, List, [], ◌∷◌, length, filter, codes}
+use Rattle.std.specs.Prelude.{ℕ, ◌+◌, Bool, true, false, List, [], ◌∷◌, length, filter}
 use Rattle.reversal.specs.SideData.{side_data_len}
+use Rattle.matroska_names.specs.declared.texts.TheConstants.{SIDE_NAME}
 use Rattle.cook_pack.specs.declared.planned_file.PlannedFile.{PlannedFile}
 use Rattle.cook_pack.specs.declared.planned_file.PlannedKind.{PlannedKind}
 use Rattle.cook_pack.specs.declared.planned_file.PlannedKind.TheVariants.{Other}
@@ -26,7 +27,7 @@ others_len uid (file ∷ files) = attached_len file.name false uid file.length +
 
 -- the bytes of the side data as an attachment, numbered behind the others
 abbrev pub side_attached_len : List PlannedFile → ℕ
-side_attached_len files = attached_len (codes "cook.rev") true (length (others_planned files) + 1) (side_data_len (names_planned files))
+side_attached_len files = attached_len SIDE_NAME.now true (length (others_planned files) + 1) (side_data_len (names_planned files))
 
 -- the bytes of all attachments of a plan
 abbrev pub attachments_len : Planned → ℕ

@@ -2,12 +2,13 @@
 pub mod Attaching
 pub mod Entries
 pub mod Film
-pub mod Offence
 pub mod Lengths
+pub mod Offence
 pub mod Package
+pub mod PieceLaws
 pub mod Pieces
+pub mod Planned
 pub mod Stops
 pub mod Sum
-pub mod Planned
 pub use Rattle.cook_bits.specs.Names
 pub use Rattle.shelf_core.specs.Told

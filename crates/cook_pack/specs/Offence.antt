@@ -1,7 +1,7 @@
 -- The offence of a listing: the first entry, in byte order of names, that breaks a rule, and the first rule that it breaks.
 use Rattle.std.specs.Prelude.{ℕ, ◌+◌, ◌^◌, Bool, true, false, not, nat_le, nat_lt, ◌≡◌, List, [], ◌∷◌, ◌++◌, length, map, sum_by, Option, Some, None}
 use Rattle.cook_bits.specs.Names.{File, is_relative_name, is_same_name, holds_folder_of}
-use Rattle.cook_pack.specs.Film.{is_film}
+use Rattle.cook_pack.specs.Film.{is_film_or_sound}
 use Rattle.cook_pack.specs.declared.error.RefuseWhy.{RefuseWhy}
 use Rattle.cook_pack.specs.declared.error.RefuseWhy.TheVariants.{NotPlain, BadName, Twice, UnderFile, TooManyFiles, TooLarge, Unbuilt}
 
@@ -39,7 +39,7 @@ broken_by_listing names before name plain =
 unfoldable pub broken_by_file : ℕ → List ℕ → ℕ → List (Bool × RefuseWhy)
 broken_by_file total name len =
     (nat_lt (2 ^ 50) (total + len), TooLarge)
-    ∷ (is_film name, Unbuilt)
+    ∷ (is_film_or_sound name, Unbuilt)
     ∷ []
 
 abbrev pub broken_rules : List Listed → List Listed → Listed → List (Bool × RefuseWhy)
@@ -47,10 +47,10 @@ broken_rules listing before entry =
     broken_by_listing (names_of listing) (names_of before) entry.name entry.plain
     ++ broken_by_file (sum_by (λ e. length e.bytes) before) entry.name (length entry.bytes)
 
-unfoldable pub first_broken : List (Bool × RefuseWhy) → Option RefuseWhy
-first_broken [] = None
-first_broken ((true, why) ∷ rules) = Some why
-first_broken ((false, why) ∷ rules) = first_broken rules
+unfoldable pub first_offence : List (Bool × RefuseWhy) → Option RefuseWhy
+first_offence [] = None
+first_offence ((true, why) ∷ rules) = Some why
+first_offence ((false, why) ∷ rules) = first_offence rules
 
 -- the rule that an entry breaks with its name, or else what comes later
 abbrev pub or_later : Option RefuseWhy → List ℕ → Option (List ℕ × RefuseWhy) → Option (List ℕ × RefuseWhy)
@@ -61,7 +61,7 @@ or_later (Some why) name later = Some (name, why)
 unfoldable pub offence_from : List Listed → List Listed → List Listed → Option (List ℕ × RefuseWhy)
 offence_from listing before [] = None
 offence_from listing before (entry ∷ entries) =
-    or_later (first_broken (broken_rules listing before entry)) entry.name (offence_from listing (before ++ entry ∷ []) entries)
+    or_later (first_offence (broken_rules listing before entry)) entry.name (offence_from listing (before ++ entry ∷ []) entries)
 
 abbrev pub offence_of : List Listed → Option (List ℕ × RefuseWhy)
 offence_of listing = offence_from listing [] listing

@@ -1,9 +1,11 @@
 -- The package of a directory: the header, the tracks, a Cluster for each block, then the files that are attached as they are, in name
 -- order, and the side data. At this stage each file is attached, and there are no tracks and no blocks.
-use Rattle.std.specs.Prelude.{◌≡◌, ℕ, ◌+◌, ◌≤◌, Bool, false, true, List, [], ◌∷◌, ◌++◌, length, map, filter, take, codes}
+use Rattle.std.specs.Prelude.{◌≡◌, ℕ, ◌+◌, ◌≤◌, Bool, false, true, List, [], ◌∷◌, ◌++◌, length, map, filter, take}
 use Rattle.md5.specs.Md5.{md5}
 use Rattle.ebml_core.specs.Element.{element}
 use Rattle.cook_bits.specs.Names.{File}
+use Rattle.matroska_names.specs.declared.ids.TheConstants.{ATTACHMENTS}
+use Rattle.matroska_names.specs.declared.texts.TheConstants.{SIDE_NAME}
 use Rattle.reversal.specs.declared.record.FileRecord.{FileRecord}
 use Rattle.reversal.specs.declared.record.Kind.{Kind}
 use Rattle.reversal.specs.declared.record.Kind.TheVariants.{Other, Frame, Wave}
@@ -51,7 +53,7 @@ attached_from uid (file ∷ files) = attachment uid file ++ attached_from (uid +
 
 -- the side data of records as an attachment
 abbrev pub side_attached : ℕ → List FileRecord → List ℕ
-side_attached uid records = attached_file (codes "cook.rev") true uid (side_data_of records)
+side_attached uid records = attached_file SIDE_NAME.now true uid (side_data_of records)
 
 -- the other files in name order, then the side data, numbered behind them
 unfoldable pub attachments_of : List File → List ℕ
@@ -59,7 +61,7 @@ attachments_of directory = attached_from 1 (others_of directory) ++ side_attache
 
 -- the Attachments element
 unfoldable pub attachments_bytes : List File → List ℕ
-attachments_bytes directory = element 0x1941A469 (attachments_of directory)
+attachments_bytes directory = element ATTACHMENTS (attachments_of directory)
 
 -- the Tracks element: none, as long as no file is coded
 abbrev pub tracks_bytes : List File → ℕ → List ℕ

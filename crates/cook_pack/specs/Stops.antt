@@ -3,7 +3,7 @@ use Rattle.std.specs.Prelude.{◌≡◌, ◌⊎◌, ℕ, ◌<◌, List}
 use Rattle.cook_bits.specs.Names.{File}
 use Rattle.shelf_core.specs.Causes.{Rose}
 use Rattle.shelf_core.specs.Reads.{Tells}
-use Rattle.shelf_core.specs.Told.{HasFile, IsFree, with_file, with_pending}
+use Rattle.shelf_core.specs.Told.{HasFile, IsFree, with_file, with_unsealed}
 use Rattle.shelf_core.specs.Writes.{Unchanged}
 use Rattle.shelf_core.specs.declared.shelf.Shelf.{Ghosts}
 use Rattle.shelf_core.specs.declared.shelf.ShelfError.{ShelfError}
@@ -78,7 +78,7 @@ pub record IsLeft {S : Type 0} (g : Ghosts S) (old new : S) (pkg : List ℕ) (di
   pub bytes : List ℕ
   pub leaving : IsLeaving directory rate bytes
   pub files : g.files new ≡ with_file (g.files old) pkg bytes
-  pub unsealed : g.unsealed new ≡ with_pending (g.unsealed old) pkg
+  pub unsealed : g.unsealed new ≡ with_unsealed (g.unsealed old) pkg
 
 -- nothing was changed, or the package stands unsealed
 abbrev pub Leaves : {S : Type 0} → Ghosts S → S → S → List ℕ → List File → ℕ → Type 0

@@ -2,7 +2,7 @@
 ghost use Rattle.std.specs.Prelude.{◌≡◌, ◌<◌, ◌^◌, length, false, IfOk, OnOk, OnErr, IfErr};
 ghost use Rattle.shelf_core.specs.Reads.{Tells, Has, Differ, IsUnsealed, bytes_of};
 ghost use Rattle.shelf_core.specs.Writes.{Grew, GrewInPart};
-ghost use Rattle.cook_pack.specs.Attaching.{AreRecordsOf, CanAttach, CanAttachFile, IsRecordOf, file_on, files_on, others_on};
+ghost use Rattle.cook_pack.specs.Attaching.{AreRecordsOf, CanAttach, CanAttachFile, IsRecordOf, attached_on, file_on, files_on, others_on};
 ghost use Rattle.cook_pack.specs.Package.{attachment, others_of};
 ghost use Rattle.cook_pack.specs.Pieces.{attached_file};
 ghost use Rattle.cook_pack.specs.Planned.{Planned, IsInPlan};
@@ -15,7 +15,7 @@ use crate::{PackError, Plan, PlannedFile, PlannedKind};
 use cook_bits::{Bytes, Name, NoMemory, full_name};
 use reversal::{FileRecord, Kind};
 use shelf_core::{PieceError, Shelf};
-use shelf_parts::{Part, copy_part};
+use shelf_parts::{FilePart, copy_part};
 use std::alloc::{AllocError, Global};
 
 /// A file that is to be attached.
@@ -25,7 +25,7 @@ pub struct Attachment<'a> {
     pub name: &'a str,
     /// The length of its content in bytes.
     pub len: u64,
-    /// Its FileUID: its number among the attachments, from 1 (RFC 9559, section 5.1.6.1.5).
+    /// Its FileUID: its number among the attachments, from 1 (RFC 9559, section 5.1.6.1).
     pub uid: u64,
 }
 
@@ -48,7 +48,7 @@ fn not_copied(alloc: Global, file: Attachment<'_>, error: PieceError) -> PackErr
 }
 
 /// Appends a file as an attachment: its head, then its bytes. Answers its MD5.
-#[tactic(auto, using(shelf_core::proofs::FileLaws::file_laws, crate::proofs::AttachLaws::attach_laws))]
+#[tactic(auto, using(shelf_core::specs::FileLaws::file_laws, crate::proofs::AttachLaws::attach_laws))]
 pub fn attach_file<S: Shelf>(
     alloc: Global,
     shelf: &mut S,
@@ -62,22 +62,18 @@ pub fn attach_file<S: Shelf>(
     requires len { file.len < 2 ^ 54 }
     requires there { Has S.Shelf shelf.old from.now }
     requires open { IsUnsealed S.Shelf shelf.old to.now }
-    requires target { Has S.Shelf shelf.old to.now }
+    requires to_there { Has S.Shelf shelf.old to.now }
     requires apart { Differ S.Shelf shelf.old from.now to.now }
     requires measured { Tells S.Shelf shelf.old → file.len ≡ length (bytes_of S.Shelf shelf.old from.now) }
-    ensures attached { let content = bytes_of S.Shelf shelf.old from.now in
-        let whole = attached_file file.entry.name.now false file.entry.uid content in
-        OnOk result (Grew S.Shelf shelf.old shelf.new to.now whole) }
+    ensures attached { OnOk result (Grew S.Shelf shelf.old shelf.new to.now (attached_on S.Shelf shelf.old from.now file.entry.name.now file.entry.uid)) }
     ensures sum { IfOk result (λ sum. Tells S.Shelf shelf.old → sum ≡ md5 (bytes_of S.Shelf shelf.old from.now)) }
-    ensures stopped { let content = bytes_of S.Shelf shelf.old from.now in
-        let whole = attached_file file.entry.name.now false file.entry.uid content in
-        OnErr result (GrewInPart S.Shelf shelf.old shelf.new to.now whole) }
+    ensures stopped { OnErr result (GrewInPart S.Shelf shelf.old shelf.new to.now (attached_on S.Shelf shelf.old from.now file.entry.name.now file.entry.uid)) }
     ensures cause { (plan : Planned) → IsInPlan plan file.entry.name.now file.entry.len
         → IfErr result (StopsFor S.Shelf shelf.old shelf.new plan) }
 {
     let head = attached_head(alloc, file.name, false, file.uid, file.len)?;
     append_piece(shelf, to, head.as_slice())?;
-    let part = Part {
+    let part = FilePart {
         name: from,
         at: 0,
         len: file.len,
@@ -102,7 +98,7 @@ fn attach_planned<S: Shelf>(
     requires room { 0 < length buffer.old }
     requires ready { CanAttachFile S.Shelf shelf.old root.now to.now file.now }
     requires open { IsUnsealed S.Shelf shelf.old to.now }
-    requires target { Has S.Shelf shelf.old to.now }
+    requires to_there { Has S.Shelf shelf.old to.now }
     ensures attached { let file = file_on S.Shelf shelf.old root.now file.now in
         OnOk result (Grew S.Shelf shelf.old shelf.new to.now (attachment uid file)) }
     ensures record { IfOk result (IsRecordOf S.Shelf shelf.old (file_on S.Shelf shelf.old root.now file.now)) }
@@ -150,7 +146,7 @@ pub fn attach_others<S: Shelf>(
 ) -> Result<Vec<FileRecord>, PackError>
     requires ready { CanAttach S.Shelf shelf.old plan.now to.now }
     requires open { IsUnsealed S.Shelf shelf.old to.now }
-    requires target { Has S.Shelf shelf.old to.now }
+    requires to_there { Has S.Shelf shelf.old to.now }
     ensures attached { OnOk result (Grew S.Shelf shelf.old shelf.new to.now (others_on S.Shelf shelf.old plan.now)) }
     ensures records { let files = others_of (files_on S.Shelf shelf.old plan.now) in
         IfOk result (λ records. AreRecordsOf S.Shelf shelf.old files records.items) }

@@ -6,9 +6,7 @@ ghost use Rattle.cook_pack.specs.Planned.{names_planned};
 
 use crate::pieces::attached_len;
 use crate::{Plan, PlannedKind};
-
-/// The name of the side data in a package.
-const SIDE_NAME: &str = "cook.rev";
+use matroska_names::texts::SIDE_NAME;
 
 /// The bytes of the side data before its records.
 const SIDE_HEAD_LEN: u64 = 12;

@@ -3,7 +3,7 @@ ghost use Rattle.std.specs.Prelude.{◌≡◌, ◌<◌, ◌≤◌, ◌^◌, leng
 ghost use Rattle.std.specs.Str.{str_eq_ignore_ascii_case};
 ghost use Rattle.cook_pack.specs.Entries.{AreInOrder, entry_at, entry_names, fault_by_listing, fault_by_file};
 ghost use Rattle.cook_pack.specs.Offence.{ends_with_name};
-ghost use Rattle.cook_pack.specs.Film.{is_film};
+ghost use Rattle.cook_pack.specs.Film.{is_film_or_sound};
 
 use crate::RefuseWhy;
 use cook_bits::{holds_folder_of, is_relative_name};
@@ -15,20 +15,20 @@ const MOST_FILES: usize = 1_000_000;
 /// The most bytes of a directory's files.
 const MOST_BYTES: u64 = 1 << 50;
 
-fn is_same_text(ending: &[u8], other: &[u8]) -> bool
+fn is_same_ignoring_case(ending: &[u8], other: &[u8]) -> bool
     ensures { result ≡ str_eq_ignore_ascii_case ending.now other.now }
 {
     ending.eq_ignore_ascii_case(other)
 }
 
 /// Whether the name is that of a frame or a wave: it ends in `.dpx` or `.wav`, in any ASCII case.
-#[tactic(auto, unfolding(crate::specs::Film::is_film))]
-pub fn is_film(name: &str) -> bool
-    ensures { result ≡ is_film name.now }
+#[tactic(auto, unfolding(crate::specs::Film::is_film_or_sound))]
+pub fn is_film_or_sound(name: &str) -> bool
+    ensures { result ≡ is_film_or_sound name.now }
 {
     let bytes = name.as_bytes();
     let ending = &bytes[bytes.len().saturating_sub(4)..];
-    is_same_text(ending, b".dpx") || is_same_text(ending, b".wav")
+    is_same_ignoring_case(ending, b".dpx") || is_same_ignoring_case(ending, b".wav")
 }
 
 // Whether the entry at a place has the name of the one before it.
@@ -69,7 +69,7 @@ pub fn fault_by_file(total: u64, name: &str, len: u64) -> Option<RefuseWhy>
 {
     if len > MOST_BYTES - total {
         Some(RefuseWhy::TooLarge)
-    } else if is_film(name) {
+    } else if is_film_or_sound(name) {
         Some(RefuseWhy::Unbuilt)
     } else {
         None

@@ -16,6 +16,7 @@ use crate::lengths::attachments_len;
 use crate::pieces::{attached_head, attachments_head, header};
 use crate::{PackError, Plan};
 use cook_bits::{Name, NoMemory};
+use matroska_names::texts::SIDE_NAME;
 use reversal::FileRecord;
 use shelf_core::{CreateError, Shelf};
 use std::alloc::Global;
@@ -53,14 +54,14 @@ fn attach_side<S: Shelf>(
     requires are { AreRecords records.now }
     requires few { length records.now ≤ 1000000 }
     requires open { IsUnsealed S.Shelf shelf.old to.now }
-    requires target { Has S.Shelf shelf.old to.now }
+    requires to_there { Has S.Shelf shelf.old to.now }
     ensures attached { OnOk result (Grew S.Shelf shelf.old shelf.new to.now (side_attached uid records.now)) }
     ensures stopped { OnErr result (GrewInPart S.Shelf shelf.old shelf.new to.now (side_attached uid records.now)) }
     ensures cause { (plan : Planned) → IfErr result (StopsFor S.Shelf shelf.old shelf.new plan) }
 {
     let side = reversal::write(alloc, records)?;
     let len = side.as_slice().len() as u64;
-    let head = attached_head(alloc, "cook.rev", true, uid, len)?;
+    let head = attached_head(alloc, SIDE_NAME, true, uid, len)?;
     append_both(shelf, to, head.as_slice(), side.as_slice())?;
     Ok(())
 }
@@ -74,7 +75,7 @@ fn attach_all<S: Shelf>(
 ) -> Result<(), PackError>
     requires ready { CanAttach S.Shelf shelf.old plan.now to.now }
     requires open { IsUnsealed S.Shelf shelf.old to.now }
-    requires target { Has S.Shelf shelf.old to.now }
+    requires to_there { Has S.Shelf shelf.old to.now }
     ensures attached { OnOk result (Grew S.Shelf shelf.old shelf.new to.now (attachments_on S.Shelf shelf.old plan.now)) }
     ensures stopped { OnErr result (GrewInPart S.Shelf shelf.old shelf.new to.now (attachments_on S.Shelf shelf.old plan.now)) }
     ensures cause { IfErr result (StopsFor S.Shelf shelf.old shelf.new plan.now) }
@@ -95,7 +96,7 @@ fn write_attachments<S: Shelf>(
 ) -> Result<u64, PackError>
     requires ready { CanAttach S.Shelf shelf.old plan.now to.now }
     requires open { IsUnsealed S.Shelf shelf.old to.now }
-    requires target { Has S.Shelf shelf.old to.now }
+    requires to_there { Has S.Shelf shelf.old to.now }
     ensures written { OnOk result (Grew S.Shelf shelf.old shelf.new to.now (attachments_bytes_on S.Shelf shelf.old plan.now)) }
     ensures bytes { IfOk result (λ bytes. Tells S.Shelf shelf.old → bytes ≡ length (attachments_bytes_on S.Shelf shelf.old plan.now)) }
     ensures small { IfOk result (λ bytes. bytes < 2 ^ 55) }
@@ -118,7 +119,7 @@ fn write_package<S: Shelf>(
 ) -> Result<u64, PackError>
     requires ready { CanAttach S.Shelf shelf.old plan.now to.now }
     requires open { IsUnsealed S.Shelf shelf.old to.now }
-    requires target { Has S.Shelf shelf.old to.now }
+    requires to_there { Has S.Shelf shelf.old to.now }
     ensures written { (rate : ℕ) → OnOk result (Grew S.Shelf shelf.old shelf.new to.now (package_on S.Shelf shelf.old plan.now rate)) }
     ensures bytes { (rate : ℕ) → IfOk result (λ bytes. Tells S.Shelf shelf.old → bytes ≡ length (package_on S.Shelf shelf.old plan.now rate)) }
     ensures stopped { (rate : ℕ) → OnErr result (GrewInPart S.Shelf shelf.old shelf.new to.now (package_on S.Shelf shelf.old plan.now rate)) }
@@ -172,12 +173,9 @@ pub fn pack<S: Shelf>(
     requires workers { (1 ≤ options.workers) × (options.workers ≤ 64) }
     requires rate { (1 ≤ options.rate) × (options.rate ≤ 240) }
     requires fits { FitsShelf S.Shelf shelf.old plan.now }
-    ensures packed { let directory = directory_of S.Shelf shelf.old plan.now.root in
-        OnOk result (Wrote S.Shelf shelf.old shelf.new pkg.now (package_of directory options.rate)) }
-    ensures sum { let directory = directory_of S.Shelf shelf.old plan.now.root in
-        IfOk result (λ sum. Tells S.Shelf shelf.old → IsSumOf directory options.rate sum) }
-    ensures left { let directory = directory_of S.Shelf shelf.old plan.now.root in
-        IfErr result (LeavesFor S.Shelf shelf.old shelf.new pkg.now directory options.rate) }
+    ensures packed { OnOk result (Wrote S.Shelf shelf.old shelf.new pkg.now (package_of (directory_of S.Shelf shelf.old plan.now.root) options.rate)) }
+    ensures sum { IfOk result (λ sum. Tells S.Shelf shelf.old → IsSumOf (directory_of S.Shelf shelf.old plan.now.root) options.rate sum) }
+    ensures left { IfErr result (LeavesFor S.Shelf shelf.old shelf.new pkg.now (directory_of S.Shelf shelf.old plan.now.root) options.rate) }
     ensures cause { IfErr result (IsNotPacked S.Shelf shelf.old shelf.new plan.now) }
     ensures counts { CountsStay S.Shelf shelf.old shelf.new }
 {

@@ -1,61 +1,40 @@
 // The pieces of a package of plain files, by which `pack` appends it (RFC 8794 and RFC 9559).
 ghost use Rattle.std.specs.Prelude.{◌≡◌, ◌+◌, ◌^◌, ◌<◌, ◌≤◌, ◌++◌, length, IfOk, OnOk, OnErr};
-ghost use Rattle.cook_pack.specs.Pieces.{header_bytes, ebml_content, info_content, media_type, attached_fields, attached_head, attachments_head};
+ghost use Rattle.ebml_core.specs.Element.{uint_bytes};
+ghost use Rattle.matroska_names.specs.declared.ids.TheConstants.{SEGMENT};
+ghost use Rattle.cook_pack.specs.Pieces.{unknown_size, header_bytes, ebml_content, info_content, media_type, attached_fields, attached_head, attachments_head};
 
 use cook_bits::{Bytes, NoMemory};
 use ebml_core::{head_len, put_bytes, put_head, put_uint, uint_len};
+use matroska_names::ids::{
+    ATTACHED_FILE, ATTACHMENTS, DOC_TYPE, DOC_TYPE_READ_VERSION, DOC_TYPE_VERSION, EBML,
+    EBML_MAX_ID_LENGTH, EBML_MAX_SIZE_LENGTH, EBML_READ_VERSION, EBML_VERSION, FILE_DATA,
+    FILE_MEDIA_TYPE, FILE_NAME, FILE_UID, INFO, MUXING_APP, SEGMENT, TIMESTAMP_SCALE, WRITING_APP,
+};
+use matroska_names::texts::{APP, MATROSKA, OTHER_MEDIA_TYPE, SIDE_MEDIA_TYPE};
 use std::alloc::Global;
 
-const EBML: u32 = 0x1A45DFA3;
+/// An unknown size, in eight bytes: the Segment ends with the file.
+const UNKNOWN_SIZE: [u8; 8] = [0x01, 0xFF, 0xFF, 0xFF, 0xFF, 0xFF, 0xFF, 0xFF];
 
-const EBML_VERSION: u32 = 0x4286;
-
-const EBML_READ_VERSION: u32 = 0x42F7;
-
-const EBML_MAX_ID_LENGTH: u32 = 0x42F2;
-
-const EBML_MAX_SIZE_LENGTH: u32 = 0x42F3;
-
-const DOC_TYPE: u32 = 0x4282;
-
-const DOC_TYPE_VERSION: u32 = 0x4287;
-
-const DOC_TYPE_READ_VERSION: u32 = 0x4285;
-
-const INFO: u32 = 0x1549A966;
-
-const TIMESTAMP_SCALE: u32 = 0x2AD7B1;
-
-const MUXING_APP: u32 = 0x4D80;
-
-const WRITING_APP: u32 = 0x5741;
-
-const ATTACHMENTS: u32 = 0x1941A469;
-
-const ATTACHED_FILE: u32 = 0x61A7;
-
-const FILE_NAME: u32 = 0x466E;
-
-const FILE_MEDIA_TYPE: u32 = 0x4660;
-
-const FILE_UID: u32 = 0x46AE;
-
-const FILE_DATA: u32 = 0x465C;
-
-/// The Segment's identifier and an unknown size: the Segment ends with the file.
-const SEGMENT_HEAD: [u8; 12] = [
-    0x18, 0x53, 0x80, 0x67, 0x01, 0xFF, 0xFF, 0xFF, 0xFF, 0xFF, 0xFF, 0xFF,
-];
+// Adds the head of a Segment of unknown size.
+fn put_segment_head(out: &mut Bytes) -> Result<(), NoMemory>
+    ensures { OnOk result (out.new ≡ out.old ++ (uint_bytes SEGMENT ++ unknown_size)) }
+{
+    out.append(&SEGMENT.to_be_bytes())?;
+    out.append(&UNKNOWN_SIZE)?;
+    Ok(())
+}
 
 /// What every package begins with: the EBML header, the head of the Segment, Info.
-#[tactic(auto, using(crate::proofs::PieceLaws::piece_laws), unfolding(crate::specs::Pieces::header_bytes))]
+#[tactic(auto, using(crate::specs::PieceLaws::piece_laws), unfolding(crate::specs::Pieces::header_bytes))]
 pub fn header(alloc: Global) -> Result<Bytes, NoMemory>
     ensures { IfOk result (λ header. header ≡ header_bytes) }
 {
     let mut out = Bytes::new(alloc);
     let content = ebml_content(alloc)?;
     put_bytes(&mut out, EBML, content.as_slice())?;
-    out.append(&SEGMENT_HEAD)?;
+    put_segment_head(&mut out)?;
     let content = info_content(alloc)?;
     put_bytes(&mut out, INFO, content.as_slice())?;
     Ok(out)
@@ -70,7 +49,7 @@ fn ebml_content(alloc: Global) -> Result<Bytes, NoMemory>
     put_uint(&mut out, EBML_READ_VERSION, 1)?;
     put_uint(&mut out, EBML_MAX_ID_LENGTH, 4)?;
     put_uint(&mut out, EBML_MAX_SIZE_LENGTH, 8)?;
-    put_bytes(&mut out, DOC_TYPE, b"matroska")?;
+    put_bytes(&mut out, DOC_TYPE, MATROSKA.as_bytes())?;
     put_uint(&mut out, DOC_TYPE_VERSION, 4)?;
     put_uint(&mut out, DOC_TYPE_READ_VERSION, 2)?;
     Ok(out)
@@ -82,8 +61,8 @@ fn info_content(alloc: Global) -> Result<Bytes, NoMemory>
 {
     let mut out = Bytes::new(alloc);
     put_uint(&mut out, TIMESTAMP_SCALE, 1_000_000)?;
-    put_bytes(&mut out, MUXING_APP, b"cook 1")?;
-    put_bytes(&mut out, WRITING_APP, b"cook 1")?;
+    put_bytes(&mut out, MUXING_APP, APP.as_bytes())?;
+    put_bytes(&mut out, WRITING_APP, APP.as_bytes())?;
     Ok(out)
 }
 
@@ -102,14 +81,14 @@ fn media_type(side: bool) -> &'static [u8]
     ensures { result.now ≡ media_type side }
 {
     if side {
-        b"application/x-cook-rev"
+        SIDE_MEDIA_TYPE.as_bytes()
     } else {
-        b"application/octet-stream"
+        OTHER_MEDIA_TYPE.as_bytes()
     }
 }
 
 // The length of FileName, FileMediaType and FileUID.
-#[tactic(auto, using(crate::proofs::PieceLaws::piece_laws))]
+#[tactic(auto, using(crate::specs::PieceLaws::piece_laws))]
 fn fields_len(name: &str, side: bool, uid: u64) -> u64
     requires { length name.now < 2 ^ 54 }
     ensures len { result ≡ length (attached_fields name.now side uid) }
@@ -125,7 +104,7 @@ fn fields_len(name: &str, side: bool, uid: u64) -> u64
 }
 
 /// An AttachedFile up to the first byte of its file's content of `len` bytes.
-#[tactic(auto, using(crate::proofs::PieceLaws::piece_laws), unfolding(crate::specs::Pieces::attached_head, crate::specs::Pieces::attached_fields))]
+#[tactic(auto, using(crate::specs::PieceLaws::piece_laws), unfolding(crate::specs::Pieces::attached_head, crate::specs::Pieces::attached_fields))]
 pub fn attached_head(
     alloc: Global,
     name: &str,
@@ -152,7 +131,7 @@ pub fn attached_head(
 }
 
 /// The length of a whole AttachedFile, its head and its file's content of `len` bytes included. It takes no memory.
-#[tactic(auto, using(crate::proofs::PieceLaws::piece_laws))]
+#[tactic(auto, using(crate::specs::PieceLaws::piece_laws))]
 pub fn attached_len(name: &str, side: bool, uid: u64, len: u64) -> u64
     requires name { length name.now < 2 ^ 54 }
     requires content { len < 2 ^ 54 }

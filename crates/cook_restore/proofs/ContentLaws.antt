@@ -9,7 +9,7 @@ use Rattle.cook_bits.specs.Names.{is_same_name}
 use Rattle.reversal.specs.declared.record.FileRecord.{FileRecord}
 use Rattle.cook_restore.specs.Contents.{attached_as, others_of, place_of, place_or, content_place, content_places}
 use Rattle.cook_restore.specs.declared.contents.Content.{Content}
-use Rattle.cook_restore.specs.declared.matroska_read.files.FileAt.{FileAt}
+use Rattle.matroska_read.specs.declared.files.FileAt.{FileAt}
 
 -- ---- a file more
 

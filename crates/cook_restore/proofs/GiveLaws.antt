@@ -3,24 +3,24 @@ use Rattle.std.proofs.Common.{◌≡◌, inl, inr, ℕ, ◌+◌, ◌-◌, ◌≤
 use Rattle.std.proofs.Math.Seq.{take-length}
 use Rattle.std.proofs.lemmas.Bool.Decides.{nat_tests}
 use Rattle.md5.specs.Md5.{md5}
-use Rattle.cook_bits.specs.Names.{is_same_name, full_name}
+use Rattle.cook_bits.specs.Names.{full_name}
 use Rattle.shelf_core.specs.Leaves.{LeavesNothing, LeavesPart}
 use Rattle.shelf_core.specs.Pieces.{EndsWithin, IsNotShort}
 use Rattle.shelf_core.specs.Reads.{Tells, Has, OnlyReads, Failed, Starved, CountsStay, bytes_of}
-use Rattle.shelf_core.specs.Told.{Told, IsTold, HasFile, IsFree, Pending, GrewPartly, content, grown, with_file, with_pending, without_pending}
+use Rattle.shelf_core.specs.Told.{Told, IsTold, HasFile, IsFree, Unsealed, GrewPartly, content, grown, with_file, with_unsealed, without_unsealed}
 use Rattle.shelf_core.specs.Writes.{Created, Grew, GrewInPart, Wrote, Unchanged, WroteInPart, StoppedWriting}
 use Rattle.shelf_core.specs.declared.shelf.Shelf.{Ghosts}
 use Rattle.shelf_core.specs.declared.pieces.PieceError.{PieceError}
 use Rattle.shelf_core.specs.declared.pieces.PieceError.TheVariants as piece
 use Rattle.shelf_core.specs.declared.shelf.ShelfError.{ShelfError}
 use Rattle.shelf_core.specs.declared.shelf.ShelfError.TheVariants as shelf
-use Rattle.shelf_core.proofs.FileLaws.{IsApart-there, content-apart, grown-with_file, is_same_name-itself, IsTold-with_file, IsTold-stays, without-with_pending}
-use Rattle.shelf_core.proofs.LeftLaws.{left_part, left_whole}
-use Rattle.shelf_core.proofs.PieceLaws.{grown-if_told, GrewPartly-if_told}
+use Rattle.shelf_core.specs.FileLaws.{IsApart-there, content-apart, grown-with_file, is_same_name-itself, IsTold-with_file, IsTold-stays, without-with_unsealed}
+use Rattle.shelf_core.specs.LeftLaws.{left_part, left_whole}
+use Rattle.shelf_core.specs.PieceLaws.{grown-if_told, GrewPartly-if_told}
 use Rattle.reversal.specs.declared.record.FileRecord.{FileRecord}
 use Rattle.cook_restore.specs.Contents.{content_found, PlaceEndsBy}
 use Rattle.cook_restore.specs.Giving.{asked_there, Means, IsChecked, IsHeld, NotChecked, StopsAdding, NotAdded, NotWritten, NotGiven, IsContentGiven, LeavesContent, content_on, piece_stop, shelf_stop}
-use Rattle.cook_restore.specs.Meaning.{checked}
+use Rattle.cook_restore.specs.Meaning.{checked, is_same_sum}
 use Rattle.cook_restore.specs.Restoring.{HasFileIn, IsFreeIn, with_given}
 use Rattle.cook_restore.specs.declared.contents.Content.{Content}
 use Rattle.cook_restore.specs.declared.stop.Stop.{Stop}
@@ -35,17 +35,17 @@ unfolding with_file IsTold
 with_file-untold None name bytes untold = refl
 with_file-untold (Some files) name bytes untold = absurd (untold tt)
 
-with_pending-untold : (told : Told) (pending : Pending) (name : List ℕ) → is_some told ≡ is_some pending → (IsTold told → ⊥) → with_pending pending name ≡ pending
-unfolding with_pending IsTold
-with_pending-untold told None name together untold = refl
-with_pending-untold None (Some names) name together untold = absurd (cc)
-with_pending-untold (Some files) (Some names) name together untold = absurd (untold tt)
+with_unsealed-untold : (told : Told) (unsealed_before : Unsealed) (name : List ℕ) → is_some told ≡ is_some unsealed_before → (IsTold told → ⊥) → with_unsealed unsealed_before name ≡ unsealed_before
+unfolding with_unsealed IsTold
+with_unsealed-untold told None name together untold = refl
+with_unsealed-untold None (Some names) name together untold = absurd (cc)
+with_unsealed-untold (Some files) (Some names) name together untold = absurd (untold tt)
 
 -- a part of a file leaves nothing that is told
-nothing-untold : (told after : Told) (pending pending_after : Pending) (name whole : List ℕ) → is_some told ≡ is_some pending → (IsTold told → ⊥) → LeavesPart told after pending pending_after name whole → LeavesNothing told after pending pending_after
-nothing-untold told after pending pending_after name whole together untold part = record {
+nothing-untold : (told after : Told) (unsealed_before unsealed_after : Unsealed) (name whole : List ℕ) → is_some told ≡ is_some unsealed_before → (IsTold told → ⊥) → LeavesPart told after unsealed_before unsealed_after name whole → LeavesNothing told after unsealed_before unsealed_after
+nothing-untold told after unsealed_before unsealed_after name whole together untold part = record {
   files = part.files ∙ with_file-untold told name (take part.count whole) untold;
-  unsealed = part.unsealed ∙ with_pending-untold told pending name together untold;
+  unsealed = part.unsealed ∙ with_unsealed-untold told unsealed_before name together untold;
 }
 
 -- ---- the package while a new file is created
@@ -109,15 +109,15 @@ part-whole g old new to bytes grew = record {
 }
 
 -- a sum that is the same is found the same
-same-sum : (sum other : List ℕ) → sum ≡ other → is_same_name sum other ≡ false → ⊥
+same-sum : (sum other : List ℕ) → sum ≡ other → is_same_sum sum other ≡ false → ⊥
 same-sum sum other same differs =
-    let equal : is_same_name sum sum ≡ true = is_same_name-itself sum in
-    let unequal : is_same_name sum sum ≡ false = subst (λ b. is_same_name sum b ≡ false) (sym same) differs in
+    let equal : is_same_sum sum sum ≡ true = is_same_name-itself sum in
+    let unequal : is_same_sum sum sum ≡ false = subst (λ b. is_same_sum sum b ≡ false) (sym same) differs in
     cc
 
 -- a copy of another sum
 pub another-added : {S : Type 0} (g : Ghosts S) (old new : S) (pkg to sum : List ℕ) (said : FileRecord) (found : Content) (why : FileWhy) → IsChecked g old pkg said found → Grew g old new to (content_on g old pkg found) → (Tells g old → sum ≡ md5 (content_on g old pkg found))
-    → is_same_name sum said.md5 ≡ false → NotAdded g old new pkg found to (stop.File why)
+    → is_same_sum sum said.md5 ≡ false → NotAdded g old new pkg found to (stop.File why)
 another-added g old new pkg to sum said found why good grew summed differs = record {
   part = part-whole g old new to (content_on g old pkg found) grew;
   cause = λ known. same-sum sum said.md5 (summed known ∙ good.sum known) differs;
@@ -160,11 +160,11 @@ whole-written g old created full pkg to found is there grew =
 
 -- a file that was added whole and sealed
 pub written : {S : Type 0} (g : Ghosts S) (old created full new : S) (pkg to : List ℕ) (found : Content) → Created g old created to → Has g old pkg → Grew g created full to (content_on g created pkg found)
-    → g.files new ≡ g.files full → g.unsealed new ≡ without_pending (g.unsealed full) to → CountsStay g full new → Wrote g old new to (content_on g old pkg found)
+    → g.files new ≡ g.files full → g.unsealed new ≡ without_unsealed (g.unsealed full) to → CountsStay g full new → Wrote g old new to (content_on g old pkg found)
 written g old created full new pkg to found is there grew same sealed counts = record {
   free = is.free;
   files = same ∙ whole-written g old created full pkg to found is there grew;
-  unsealed = sealed ∙ ap (λ (u : Pending). without_pending u to) (grew.unsealed ∙ is.unsealed) ∙ without-with_pending (g.unsealed old) to is.at_rest;
+  unsealed = sealed ∙ ap (λ (u : Unsealed). without_unsealed u to) (grew.unsealed ∙ is.unsealed) ∙ without-with_unsealed (g.unsealed old) to is.not_unsealed;
   faults = omega (arith, is.faults, grew.faults, counts.faults);
   starved = omega (arith, is.starved, grew.starved, counts.starved);
 }
@@ -196,7 +196,7 @@ checked-length : (said : FileRecord) (bytes : List ℕ) → (length bytes ≡ sa
 unfolding checked
 checked-length said bytes differs = let no : (length bytes == said.length) ≡ false = grind (arith, nat_tests) in rw no refl
 
-checked-sum : (said : FileRecord) (bytes : List ℕ) → length bytes ≡ said.length → is_same_name (md5 bytes) said.md5 ≡ false → checked said bytes ≡ Err file.Sum
+checked-sum : (said : FileRecord) (bytes : List ℕ) → length bytes ≡ said.length → is_same_sum (md5 bytes) said.md5 ≡ false → checked said bytes ≡ Err file.Sum
 unfolding checked
 checked-sum said bytes same differs = let yes : (length bytes == said.length) ≡ true = grind (arith, nat_tests) in rw (yes, differs) refl
 
@@ -204,7 +204,7 @@ checked-good : (said : FileRecord) (bytes : List ℕ) → length bytes ≡ said.
 unfolding checked
 checked-good said bytes same sum =
     let yes : (length bytes == said.length) ≡ true = grind (arith, nat_tests) in
-    let agrees : is_same_name (md5 bytes) said.md5 ≡ true = subst (λ b. is_same_name (md5 bytes) b ≡ true) sum (is_same_name-itself (md5 bytes)) in
+    let agrees : is_same_sum (md5 bytes) said.md5 ≡ true = subst (λ b. is_same_sum (md5 bytes) b ≡ true) sum (is_same_name-itself (md5 bytes)) in
     rw (yes, agrees) refl
 
 -- a content of another length
@@ -218,10 +218,10 @@ length-checked g old new pkg len said found place target is ends differs = λ kn
 
 -- or of another sum
 pub sum-checked : {S : Type 0} (g : Ghosts S) (old new : S) (pkg sum : List ℕ) (len : ℕ) (said : FileRecord) (found : Option Content) (place : Content) (target : Option (List ℕ)) → found ≡ Some place → place.len ≡ said.length → (Tells g old → length (content_on g old pkg place) ≡ place.len)
-    → (Tells g old → sum ≡ md5 (content_on g old pkg place)) → is_same_name sum said.md5 ≡ false → NotChecked g old new (asked_there pkg len said found target) (stop.File file.Sum)
+    → (Tells g old → sum ≡ md5 (content_on g old pkg place)) → is_same_sum sum said.md5 ≡ false → NotChecked g old new (asked_there pkg len said found target) (stop.File file.Sum)
 unfolding content_found
 sum-checked g old new pkg sum len said found place target is same long summed differs = λ known whole.
-    ap (content_found said (bytes_of g old pkg)) is ∙ checked-sum said (content_on g old pkg place) (long known ∙ same) (subst (λ b. is_same_name b said.md5 ≡ false) (summed known) differs)
+    ap (content_found said (bytes_of g old pkg)) is ∙ checked-sum said (content_on g old pkg place) (long known ∙ same) (subst (λ b. is_same_sum b said.md5 ≡ false) (summed known) differs)
 
 -- ---- the giving of a file
 
@@ -278,7 +278,7 @@ part-then g old between new name bytes kept part = record {
   count = part.count;
   within = part.within;
   files = part.files ∙ ap (λ (t : Told). with_file t name (take part.count bytes)) kept.files;
-  unsealed = part.unsealed ∙ ap (λ (u : Pending). with_pending u name) kept.unsealed;
+  unsealed = part.unsealed ∙ ap (λ (u : Unsealed). with_unsealed u name) kept.unsealed;
 }
 
 -- it was not written whole

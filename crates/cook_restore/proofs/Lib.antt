@@ -1,12 +1,7 @@
 pub mod ContentLaws
-pub mod FileLaws
 pub mod GiveLaws
-pub mod HeadLaws
 pub mod MeaningLaws
 pub mod NameLaws
 pub mod NextLaws
-pub mod NumberLaws
 pub mod OpenLaws
 pub mod PlacesLaws
-pub mod SpelledWalk
-pub mod TopLaws

@@ -15,14 +15,14 @@ use Rattle.reversal.specs.declared.record.FileRecord.{FileRecord}
 use Rattle.reversal.specs.declared.error.SideError.{SideError}
 use Rattle.reversal.proofs.Found.{names_in_order}
 use Rattle.cook_restore.specs.Meaning.{Meaning, meaning_of, outline_meant, side_meant, records_meant, files_meant, with_file_meant, content_meant, side_seen}
-use Rattle.cook_restore.specs.Outline.{places_of, outline_of}
-use Rattle.cook_restore.specs.Places.{Places, Attached, Outline, outline_at}
+use Rattle.matroska_read.specs.Outline.{places_of, outline_of}
+use Rattle.matroska_read.specs.Places.{Places, Attached, Outline, outline_at}
 use Rattle.cook_restore.specs.Restoring.{AreSideRecords, IsMeant, IsEnd}
-use Rattle.cook_restore.specs.declared.matroska_read.error.OutlineFault.{OutlineFault}
+use Rattle.matroska_read.specs.declared.error.OutlineFault.{OutlineFault}
 use Rattle.cook_restore.specs.declared.error.FileWhy.{FileWhy}
 use Rattle.cook_restore.specs.declared.error.PackageWhy.{PackageWhy}
 use Rattle.cook_restore.specs.declared.error.PackageWhy.TheVariants as faults
-use Rattle.cook_restore.proofs.PlacesLaws.{outline-is}
+use Rattle.matroska_read.specs.PlacesLaws.{outline-is}
 
 abbrev pub Find : Type 0
 Find = FileRecord → Result (List ℕ) FileWhy

@@ -6,17 +6,17 @@ use Rattle.cook_bits.specs.Names.{is_same_name, full_name}
 use Rattle.shelf_core.specs.Reads.{Has}
 use Rattle.shelf_core.specs.Writes.{WroteInPart}
 use Rattle.shelf_core.specs.declared.shelf.Shelf.{Ghosts}
-use Rattle.shelf_core.specs.Told.{Told, HasFile, IsFree, Pending, content, with_file}
-use Rattle.shelf_core.proofs.FileLaws.{HasFile-with_file, IsApart-there, content-apart}
+use Rattle.shelf_core.specs.Told.{Told, HasFile, IsFree, Unsealed, content, with_file}
+use Rattle.shelf_core.specs.FileLaws.{HasFile-with_file, IsApart-there, content-apart}
 use Rattle.reversal.specs.declared.record.FileRecord.{FileRecord}
 use Rattle.cook_restore.specs.Contents.{attached_as, others_of, content_found, content_place, content_places, place_or, PlaceEndsBy}
 use Rattle.cook_restore.specs.Giving.{Asked, asked_there, asked_at, Means, IsContentGiven, NotGiven, LeavesContent, numbered}
-use Rattle.cook_restore.specs.Inside.{EndsBy}
+use Rattle.matroska_read.specs.Inside.{EndsBy}
 use Rattle.cook_restore.specs.Meaning.{meaning_of, files_meant, content_meant}
-use Rattle.cook_restore.specs.Places.{Places, outline_at}
+use Rattle.matroska_read.specs.Places.{Places, outline_at}
 use Rattle.cook_restore.specs.Restoring.{Fits, AreSideRecords, IsMeant, IsMeantWhereTold, IsEnd, IsEndWhereTold, IsThrough, GivesNext, IsNotGiven, LeavesNext, KeepsPackage, next_name, no_record, record_at, with_given, HasFileIn, IsFreeIn}
 use Rattle.cook_restore.specs.declared.contents.Content.{Content}
-use Rattle.cook_restore.specs.declared.matroska_read.files.FileAt.{FileAt}
+use Rattle.matroska_read.specs.declared.files.FileAt.{FileAt}
 use Rattle.cook_restore.specs.declared.error.FileWhy.{FileWhy}
 use Rattle.cook_restore.specs.declared.error.PackageWhy.TheVariants as faults
 use Rattle.cook_restore.specs.declared.restorer.Restorer.{Restorer}
@@ -122,8 +122,8 @@ is-given g old new before restorer sum running inside numbered one_more goes_on 
       fits = λ known fits. fits-next before restorer (content (g.files old) before.pkg) keeps fits (omega (arith, one_more, (meant known fits).within));
     }
 
-pub is-through : (told : Told) (pending : Pending) (before : Restorer) → (before.ended ≡ true) ⊎ (length before.records.items ≤ before.number) → IsThrough told told pending pending before before
-is-through told pending before why = record {
+pub is-through : (told : Told) (unsealed_before : Unsealed) (before : Restorer) → (before.ended ≡ true) ⊎ (length before.records.items ≤ before.number) → IsThrough told told unsealed_before unsealed_before before before
+is-through told unsealed_before before why = record {
   why = why;
   number = refl;
   ended = refl;

@@ -13,22 +13,23 @@ use Rattle.reversal.specs.declared.error.SideError.{SideError}
 use Rattle.reversal.specs.declared.error.SideError.TheVariants as side
 use Rattle.reversal.specs.declared.record.FileRecord.{FileRecord}
 use Rattle.cook_restore.specs.Contents.{side_of}
-use Rattle.cook_restore.specs.Inside.{EndsBy, KeepsWithin}
+use Rattle.matroska_read.specs.Inside.{EndsBy, KeepsWithin}
 use Rattle.cook_restore.specs.Meaning.{meaning_of, outline_meant, side_meant, records_meant, nothing_for, why_of_outline, why_of_side, side_seen}
-use Rattle.cook_restore.specs.Outline.{places_of}
-use Rattle.cook_restore.specs.Places.{Places, attached_at, outline_at, bytes_at}
+use Rattle.matroska_read.specs.Outline.{places_of}
+use Rattle.matroska_read.specs.Places.{Places, attached_at, outline_at, bytes_at}
 use Rattle.cook_restore.specs.Restoring.{AreSideRecords, IsNotOpened, IsMissing, IsRefused, IsBeforeFiles, NotRead, NotOutlined, NotRecorded}
-use Rattle.cook_restore.specs.Answered.{StopsFor, IsRefusal}
+use Rattle.matroska_read.specs.Answered.{StopsFor, IsRefusal}
 use Rattle.cook_restore.specs.declared.error.PackageWhy.{PackageWhy}
 use Rattle.cook_restore.specs.declared.error.PackageWhy.TheVariants as broken
 use Rattle.cook_restore.specs.declared.error.RestoreError.{RestoreError}
 use Rattle.cook_restore.specs.declared.error.RestoreError.TheVariants as unopened
-use Rattle.cook_restore.specs.declared.matroska_read.error.OutlineError.{OutlineError}
-use Rattle.cook_restore.specs.declared.matroska_read.error.OutlineError.TheVariants as outlined
-use Rattle.cook_restore.specs.declared.matroska_read.error.OutlineFault.{OutlineFault}
-use Rattle.cook_restore.specs.declared.matroska_read.error.OutlineFault.TheVariants as outline_fault
-use Rattle.cook_restore.specs.declared.matroska_read.files.FileAt.{FileAt}
-use Rattle.cook_restore.proofs.PlacesLaws.{outline-is, outline-fault, side-seen}
+use Rattle.matroska_read.specs.declared.error.OutlineError.{OutlineError}
+use Rattle.matroska_read.specs.declared.error.OutlineError.TheVariants as outlined
+use Rattle.matroska_read.specs.declared.error.OutlineFault.{OutlineFault}
+use Rattle.matroska_read.specs.declared.error.OutlineFault.TheVariants as outline_fault
+use Rattle.matroska_read.specs.declared.files.FileAt.{FileAt}
+use Rattle.matroska_read.specs.PlacesLaws.{outline-is, outline-fault}
+use Rattle.cook_restore.proofs.PlacesLaws.{side-seen}
 
 -- ---- the length
 

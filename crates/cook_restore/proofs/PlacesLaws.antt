@@ -6,20 +6,10 @@ use Rattle.shelf_reader.specs.Readings.{answers, thence, thence_of}
 use Rattle.reversal.specs.declared.record.FileRecord.{FileRecord}
 use Rattle.cook_restore.specs.Contents.{side_of, others_of, attached_as, place_or, content_place, content_found}
 use Rattle.cook_restore.specs.Meaning.{side_seen, others_seen, seen_as, content_of_file, content_meant}
-use Rattle.cook_restore.specs.Outline.{places_of, outline_of}
-use Rattle.cook_restore.specs.Places.{Places, Attached, bytes_at, attached_at, outline_at}
-use Rattle.cook_restore.specs.declared.matroska_read.error.OutlineFault.{OutlineFault}
-use Rattle.cook_restore.specs.declared.matroska_read.files.FileAt.{FileAt}
-
--- ---- the outline
-
-pub outline-is : (bytes : List ℕ) (places : Places) → places_of bytes ≡ Ok places → outline_of bytes ≡ Ok (outline_at places bytes)
-unfolding outline_of thence thence_of answers
-outline-is bytes places is = rw is refl
-
-pub outline-fault : (bytes : List ℕ) (fault : OutlineFault) → places_of bytes ≡ Err fault → outline_of bytes ≡ Err fault
-unfolding outline_of thence thence_of answers
-outline-fault bytes fault is = rw is refl
+use Rattle.matroska_read.specs.Outline.{places_of, outline_of}
+use Rattle.matroska_read.specs.Places.{Places, Attached, bytes_at, attached_at, outline_at}
+use Rattle.matroska_read.specs.declared.error.OutlineFault.{OutlineFault}
+use Rattle.matroska_read.specs.declared.files.FileAt.{FileAt}
 
 -- ---- looked up among the files
 

@@ -6,7 +6,7 @@ use Rattle.std.specs.Ordering.{nat_cmp}
 use denote.Ref.{Bor}
 use Rattle.cook_bits.specs.Names.{is_same_name}
 use Rattle.reversal.specs.declared.record.FileRecord.{FileRecord}
-use Rattle.cook_restore.specs.declared.matroska_read.files.FileAt.{FileAt}
+use Rattle.matroska_read.specs.declared.files.FileAt.{FileAt}
 use Rattle.cook_restore.specs.declared.contents.Content.{Content}
 use Rattle.cook_restore.specs.declared.error.FileWhy.{FileWhy}
 use Rattle.cook_restore.specs.declared.error.FileWhy.TheVariants as file

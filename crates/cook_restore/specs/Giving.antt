@@ -15,7 +15,7 @@ use Rattle.shelf_core.specs.declared.shelf.CreateError.TheVariants as create
 use Rattle.reversal.specs.declared.record.FileRecord.{FileRecord}
 use Rattle.cook_restore.specs.Contents.{content_found}
 use Rattle.cook_restore.specs.Meaning.{content_meant}
-use Rattle.cook_restore.specs.Places.{outline_at}
+use Rattle.matroska_read.specs.Places.{outline_at}
 use Rattle.cook_restore.specs.Restoring.{IsFreeIn, HasFileIn, with_given, record_at}
 use Rattle.cook_restore.specs.declared.contents.Content.{Content}
 use Rattle.cook_restore.specs.declared.giving.Package.{Package}

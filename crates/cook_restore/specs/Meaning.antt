@@ -1,16 +1,17 @@
 -- What any list of bytes means as a package: the files that it gives back, up to the first that is faulty, and its end. A
 -- package whose outline or side data is faulty gives no file.
-use Rattle.std.specs.Prelude.{ℕ, ◌==◌, if◌then◌else◌, List, [], ◌∷◌, length, Option, Some, None, Result, Ok, Err}
+use Rattle.std.specs.Prelude.{ℕ, nat_eq, ◌==◌, Bool, if◌then◌else◌, List, [], ◌∷◌, length, Option, Some, None, Result, Ok, Err}
+use Rattle.std.specs.Cmp.Lexicographic.{pointwise}
 use Rattle.md5.specs.Md5.{md5}
 use Rattle.cook_bits.specs.Names.{File, is_same_name}
 use Rattle.reversal.specs.SideReading.{side_read}
 use Rattle.reversal.specs.declared.record.FileRecord.{FileRecord}
 use Rattle.reversal.specs.declared.error.SideError.{SideError}
 use Rattle.reversal.specs.declared.error.SideError.TheVariants as side
-use Rattle.cook_restore.specs.Outline.{outline_of}
-use Rattle.cook_restore.specs.Places.{Attached, Outline}
-use Rattle.cook_restore.specs.declared.matroska_read.error.OutlineFault.{OutlineFault}
-use Rattle.cook_restore.specs.declared.matroska_read.error.OutlineFault.TheVariants as outlined
+use Rattle.matroska_read.specs.Outline.{outline_of}
+use Rattle.matroska_read.specs.Places.{Attached, Outline}
+use Rattle.matroska_read.specs.declared.error.OutlineFault.{OutlineFault}
+use Rattle.matroska_read.specs.declared.error.OutlineFault.TheVariants as outlined
 use Rattle.cook_restore.specs.declared.error.FileWhy.{FileWhy}
 use Rattle.cook_restore.specs.declared.error.FileWhy.TheVariants as file
 use Rattle.cook_restore.specs.declared.error.PackageWhy.{PackageWhy}
@@ -44,9 +45,13 @@ seen_as name (file ∷ files) = if is_same_name file.name name then Some file el
 
 -- ---- a file, by its record
 
+-- two sums are the same, byte for byte
+abbrev pub is_same_sum : List ℕ → List ℕ → Bool
+is_same_sum = pointwise nat_eq
+
 -- a content of the length and of the sum (MD5, RFC 1321) that the side data says
 unfoldable pub checked : FileRecord → List ℕ → Result (List ℕ) FileWhy
-checked said content = if length content == said.length then (if is_same_name (md5 content) said.md5 then Ok content else Err file.Sum) else Err file.Length
+checked said content = if length content == said.length then (if is_same_sum (md5 content) said.md5 then Ok content else Err file.Sum) else Err file.Length
 
 unfoldable pub content_of_file : FileRecord → Option Attached → Result (List ℕ) FileWhy
 content_of_file said None = Err file.Missing

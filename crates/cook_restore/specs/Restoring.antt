@@ -5,7 +5,7 @@ use Rattle.cook_bits.specs.Names.{full_name}
 use Rattle.shelf_core.specs.Causes.{Rose}
 use Rattle.shelf_core.specs.Reads.{Tells, Failed, bytes_of}
 use Rattle.shelf_core.specs.Leaves.{LeavesNothing, LeavesPart}
-use Rattle.shelf_core.specs.Told.{Told, IsTold, HasFile, IsFree, Pending, content, no_file, with_file}
+use Rattle.shelf_core.specs.Told.{Told, IsTold, HasFile, IsFree, Unsealed, content, no_file, with_file}
 use Rattle.shelf_core.specs.declared.shelf.Shelf.{Ghosts}
 use Rattle.shelf_core.specs.declared.shelf.ShelfError.{ShelfError}
 use Rattle.shelf_core.specs.declared.shelf.ShelfError.TheVariants as shelf
@@ -18,14 +18,14 @@ use Rattle.reversal.specs.SideData.{names_of}
 use Rattle.reversal.specs.declared.record.FileRecord.{FileRecord}
 use Rattle.reversal.specs.declared.record.Kind.TheVariants.{Other}
 use Rattle.cook_restore.specs.Meaning.{Meaning, meaning_of, side_seen, nothing_for}
-use Rattle.cook_restore.specs.Outline.{places_of}
-use Rattle.cook_restore.specs.Places.{Places, Attached, Outline, bytes_at, outline_at}
-use Rattle.cook_restore.specs.declared.matroska_read.files.FileAt.{FileAt}
+use Rattle.matroska_read.specs.Outline.{places_of}
+use Rattle.matroska_read.specs.Places.{Places, Attached, Outline, bytes_at, outline_at}
+use Rattle.matroska_read.specs.declared.files.FileAt.{FileAt}
 use Rattle.cook_restore.specs.declared.error.FileWhy.{FileWhy}
 use Rattle.cook_restore.specs.declared.error.PackageWhy.{PackageWhy}
 use Rattle.cook_restore.specs.declared.error.PackageWhy.TheVariants as faults
-use Rattle.cook_restore.specs.declared.matroska_read.error.OutlineError.{OutlineError}
-use Rattle.cook_restore.specs.declared.matroska_read.error.OutlineError.TheVariants as outlined
+use Rattle.matroska_read.specs.declared.error.OutlineError.{OutlineError}
+use Rattle.matroska_read.specs.declared.error.OutlineError.TheVariants as outlined
 use Rattle.cook_restore.specs.declared.error.RestoreError.{RestoreError}
 use Rattle.cook_restore.specs.declared.error.RestoreError.TheVariants as unopened
 use Rattle.cook_restore.specs.declared.error.FileError.{FileError}
@@ -205,7 +205,7 @@ HasFileIn told None name = ⊥
 HasFileIn told (Some dir) name = HasFile told (full_name dir name)
 
 -- The next file was given: it stands in the target, whole and sealed, and the restorer goes on.
-pub record IsGiven (told after : Told) (pending pending_after : Pending) (before restorer : Restorer) (sum : FileSum) : Type 0 where
+pub record IsGiven (told after : Told) (unsealed_before unsealed_after : Unsealed) (before restorer : Restorer) (sum : FileSum) : Type 0 where
   pub next : IsNext before sum.number
   pub one_more : restorer.number ≡ before.number + 1
   pub running : restorer.ended ≡ false
@@ -213,17 +213,17 @@ pub record IsGiven (told after : Told) (pending pending_after : Pending) (before
   pub long : IsTold told → sum.length ≡ length bytes
   pub free : IsFreeIn told before.target (next_name before)
   pub files : after ≡ with_given told before.target (next_name before) bytes
-  pub unsealed : pending_after ≡ pending
+  pub unsealed : unsealed_after ≡ unsealed_before
   pub meant : IsMeantWhereTold told before bytes
   pub fits : IsTold told → Fits before (content told before.pkg) → Fits restorer (content told before.pkg)
 
 -- No file is left, or an earlier call was refused.
-pub record IsThrough (told after : Told) (pending pending_after : Pending) (before restorer : Restorer) : Type 0 where
+pub record IsThrough (told after : Told) (unsealed_before unsealed_after : Unsealed) (before restorer : Restorer) : Type 0 where
   pub why : (before.ended ≡ true) ⊎ (length before.records.items ≤ before.number)
   pub number : restorer.number ≡ before.number
   pub ended : restorer.ended ≡ before.ended
   pub files : after ≡ told
-  pub unsealed : pending_after ≡ pending
+  pub unsealed : unsealed_after ≡ unsealed_before
   pub whole : before.ended ≡ false → IsEndWhereTold told before None
 
 abbrev pub GivesNext : {S : Type 0} → Ghosts S → S → S → Restorer → Restorer → Option FileSum → Type 0
@@ -231,38 +231,38 @@ GivesNext g old new before restorer None = IsThrough (g.files old) (g.files new)
 GivesNext g old new before restorer (Some sum) = IsGiven (g.files old) (g.files new) (g.unsealed old) (g.unsealed new) before restorer sum
 
 -- the meaning ends at the next file, and nothing was changed
-pub record IsFaulty (told after : Told) (pending pending_after : Pending) (before : Restorer) (number : ℕ) (why : FileWhy) : Type 0 where
+pub record IsFaulty (told after : Told) (unsealed_before unsealed_after : Unsealed) (before : Restorer) (number : ℕ) (why : FileWhy) : Type 0 where
   pub next : IsNext before number
   pub files : after ≡ told
-  pub unsealed : pending_after ≡ pending
+  pub unsealed : unsealed_after ≡ unsealed_before
   pub ends : IsEndWhereTold told before (Some (faults.File (next_name before) why))
 
 -- the next file is as it is meant, but its name is there in the target, and nothing was changed
-pub record IsInTheWay (told after : Told) (pending pending_after : Pending) (before : Restorer) (number : ℕ) : Type 0 where
+pub record IsInTheWay (told after : Told) (unsealed_before unsealed_after : Unsealed) (before : Restorer) (number : ℕ) : Type 0 where
   pub next : IsNext before number
   pub there : HasFileIn told before.target (next_name before)
   pub files : after ≡ told
-  pub unsealed : pending_after ≡ pending
+  pub unsealed : unsealed_after ≡ unsealed_before
   pub bytes : List ℕ
   pub meant : IsMeantWhereTold told before bytes
 
 -- the package gave fewer bytes than it had, which no shelf does that tells the bytes that the restorer fits
-pub record IsChanged (told after : Told) (pending pending_after : Pending) (before : Restorer) (was now : ℕ) : Type 0 where
+pub record IsChanged (told after : Told) (unsealed_before unsealed_after : Unsealed) (before : Restorer) (was now : ℕ) : Type 0 where
   pub fewer : now < was
   pub untold : IsTold told → Fits before (content told before.pkg) → ⊥
   pub files : after ≡ told
-  pub unsealed : pending_after ≡ pending
+  pub unsealed : unsealed_after ≡ unsealed_before
 
 -- the next file stands in the target with a front of its content, unsealed
-pub record IsGivenPartly (told after : Told) (pending pending_after : Pending) (before : Restorer) : Type 0 where
+pub record IsGivenPartly (told after : Told) (unsealed_before unsealed_after : Unsealed) (before : Restorer) : Type 0 where
   pub dir : List ℕ
   pub target : before.target ≡ Some dir
   pub bytes : List ℕ
-  pub left : LeavesPart told after pending pending_after (full_name dir (next_name before)) bytes
+  pub left : LeavesPart told after unsealed_before unsealed_after (full_name dir (next_name before)) bytes
   pub meant : IsMeantWhereTold told before bytes
 
-abbrev pub LeavesNext : Told → Told → Pending → Pending → Restorer → Type 0
-LeavesNext told after pending pending_after before = LeavesNothing told after pending pending_after ⊎ IsGivenPartly told after pending pending_after before
+abbrev pub LeavesNext : Told → Told → Unsealed → Unsealed → Restorer → Type 0
+LeavesNext told after unsealed_before unsealed_after before = LeavesNothing told after unsealed_before unsealed_after ⊎ IsGivenPartly told after unsealed_before unsealed_after before
 
 -- Why a file was not given, and what stands then.
 abbrev pub IsNotGiven : {S : Type 0} → Ghosts S → S → S → Restorer → FileError → Type 0

@@ -3,8 +3,8 @@ ghost use Rattle.std.specs.Prelude.{◌≡◌, None, IfOk, OnOk};
 ghost use Rattle.std.specs.List.{position};
 ghost use Rattle.cook_restore.specs.Contents.{HoldsOver, content_places, held_as, others_of};
 
-use crate::FileAt;
 use cook_bits::NoMemory;
+use matroska_read::FileAt;
 use reversal::FileRecord;
 use std::alloc::Global;
 use std::collections::BTreeMap;

@@ -13,7 +13,7 @@ use cook_bits::full_name;
 use name_tree::NameTree;
 use reversal::FileRecord;
 use shelf_core::Shelf;
-use shelf_parts::{Part, copy_part, sum_part};
+use shelf_parts::{FilePart, copy_part, sum_part};
 use std::alloc::Global;
 
 /// The package from which files are given: its name, and its length in bytes.
@@ -57,7 +57,7 @@ fn checked_content<S: Shelf>(
     if content.len != task.said.length {
         return Err(Stop::File(FileWhy::Length));
     }
-    let part = Part {
+    let part = FilePart {
         name: pkg.name,
         at: content.at,
         len: content.len,
@@ -71,7 +71,7 @@ fn checked_content<S: Shelf>(
 
 // Adds a checked content to the end of a file: from the buffer where it is held there, and else by reading it again. Other
 // bytes at this second reading are a fault of the file.
-#[tactic(auto, using(shelf_core::proofs::FileLaws::file_laws))]
+#[tactic(auto, using(shelf_core::specs::FileLaws::file_laws))]
 fn add_content<S: Shelf>(
     shelf: &mut S,
     pkg: Package<'_>,
@@ -81,7 +81,7 @@ fn add_content<S: Shelf>(
     buffer: &mut [u8],
 ) -> Result<(), Stop>
     requires there { Has S.Shelf shelf.old pkg.name.now }
-    requires target { Has S.Shelf shelf.old to.now }
+    requires to_there { Has S.Shelf shelf.old to.now }
     requires open { IsUnsealed S.Shelf shelf.old to.now }
     requires apart { Differ S.Shelf shelf.old pkg.name.now to.now }
     requires ends { PlaceEndsBy pkg.len content }
@@ -95,7 +95,7 @@ fn add_content<S: Shelf>(
         shelf.append(to, &buffer[..content.len as usize])?;
         return Ok(());
     }
-    let part = Part {
+    let part = FilePart {
         name: pkg.name,
         at: content.at,
         len: content.len,
@@ -108,7 +108,7 @@ fn add_content<S: Shelf>(
 }
 
 // Writes a checked content as a new file, and seals it.
-#[tactic(auto, using(shelf_core::proofs::FileLaws::file_laws))]
+#[tactic(auto, using(shelf_core::specs::FileLaws::file_laws))]
 fn write_content<S: Shelf>(
     shelf: &mut S,
     pkg: Package<'_>,

@@ -6,13 +6,11 @@ mod error;
 mod folders;
 mod giving;
 pub mod laws;
-mod matroska_read;
 mod next;
 mod opening;
 mod restorer;
 mod stop;
 
 pub use error::{FileError, FileWhy, PackageWhy, RestoreError};
-pub use matroska_read::{BlockAt, Codec, FileAt, Outline, OutlineError, Track, outline};
 pub use opening::open_package;
 pub use restorer::{FileSum, Restorer};

@@ -3,13 +3,14 @@ ghost use Rattle.std.specs.Prelude.{◌≡◌, ◌+◌, ◌<◌, ◌≤◌, ◌^
 ghost use Rattle.std.specs.Option.{option_map};
 ghost use Rattle.shelf_core.specs.Reads.{OnlyReads, Has};
 ghost use Rattle.reversal.specs.SideData.{AreNames, names_of};
-ghost use Rattle.cook_restore.specs.Inside.{KeepsWithin};
+ghost use Rattle.matroska_read.specs.Inside.{KeepsWithin};
 ghost use Rattle.cook_restore.specs.Restoring.{AreBytesOf, AreRecordsOf, IsOutlineOf, StopsOpening, OpensOn, IsLenOf, NotOutlined, NotRead, NotRecorded, IsMissing};
 
 use crate::contents::{contents_of, side_number};
 use crate::folders::tree_of;
-use crate::{FileAt, Outline, OutlineError, PackageWhy, RestoreError, Restorer, outline};
+use crate::{PackageWhy, RestoreError, Restorer};
 use cook_bits::{Name, NoMemory};
+use matroska_read::{FileAt, Outline, OutlineError, outline};
 use reversal::{FileRecord, SideError};
 use shelf_core::{PieceError, Shelf, read_piece};
 use std::alloc::Global;

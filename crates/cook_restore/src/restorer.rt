@@ -3,11 +3,11 @@ ghost use Rattle.std.specs.Prelude.{◌≡◌, ◌<◌, ◌^◌, [], All, length
 ghost use Rattle.reversal.specs.SideData.{names_of};
 ghost use Rattle.cook_restore.specs.Contents.{content_places};
 ghost use Rattle.std.proofs.Props.{props};
-ghost use Rattle.cook_restore.specs.Inside.{EndsBy};
+ghost use Rattle.matroska_read.specs.Inside.{EndsBy};
 
-use crate::Outline;
 use crate::contents::Content;
 use cook_bits::Name;
+use matroska_read::Outline;
 use name_tree::NameTree;
 use reversal::FileRecord;
 

@@ -1,24 +1,26 @@
 -- The attachments of a package, as a reader sees them.
-use Rattle.std.proofs.Common.{◌≡◌, ℕ, ◌+◌, ◌*◌, ◌^◌, ◌≤◌, false, true, List, [], ◌∷◌, ◌++◌, length, map, All, codes, Ok, refl, sym, ap, ◌∙◌, arith, append_assoc, append-nil, length-append}
+use Rattle.std.proofs.Common.{◌≡◌, ℕ, ◌+◌, ◌*◌, ◌^◌, ◌≤◌, false, true, List, [], ◌∷◌, ◌++◌, length, map, All, Ok, refl, sym, ap, ◌∙◌, arith, append_assoc, append-nil, length-append}
 use Rattle.std.specs.List.{sum_by, AllByRecursion}
 use Rattle.std.proofs.lemmas.List.{length-map, map-append}
 use Rattle.std.proofs.lemmas.List.Elements.{All-map, All-from_recursion, recursion_from_All}
 use Rattle.std.proofs.lemmas.List.Sums.{sum_by-cons, sum_by-le}
+use Rattle.matroska_names.specs.declared.texts.TheConstants.{SIDE_NAME}
 use Rattle.md5.proofs.StandardFacts.{length-md5}
 use Rattle.cook_bits.specs.Names.{File, IsRelativeName}
 use Rattle.ebml_core.specs.Element.{element}
+use Rattle.matroska_names.specs.declared.ids.TheConstants.{ATTACHED_FILE, ATTACHMENTS}
 use Rattle.reversal.specs.SideData.{HasSum, names_of, side_data_len, side_data_of}
-use Rattle.reversal.proofs.Lengths.{length_is}
+use Rattle.reversal.specs.Lengths.{length_is}
 use Rattle.cook_pack.specs.Pieces.{attached_file}
 use Rattle.cook_pack.specs.Package.{attached_from, attachments_of, other_record}
 use Rattle.cook_pack.proofs.PlannedLaws.{others-all, short_name}
-use Rattle.cook_restore.specs.declared.matroska_read.parts.Element.{Element}
-use Rattle.cook_restore.specs.declared.matroska_read.files.FileAt.{FileAt}
+use Rattle.matroska_read.specs.declared.parts.Element.{Element}
+use Rattle.matroska_read.specs.declared.files.FileAt.{FileAt}
 use Rattle.shelf_reader.specs.Walk.{walked}
-use Rattle.cook_restore.specs.Walk.{ebml, walked_children}
-use Rattle.cook_restore.specs.Outline.{visit_attachments}
-use Rattle.cook_restore.proofs.SpelledWalk.{walked-end, Stands, IsSpelled, spelled, stands-first, stands-second, content-stands, walked-file}
-use Rattle.cook_restore.specs.Places.{attached_at}
+use Rattle.matroska_read.specs.Walk.{ebml, walked_children}
+use Rattle.matroska_read.specs.Outline.{visit_attachments}
+use Rattle.matroska_read.proofs.SpelledWalk.{walked-end, Stands, IsSpelled, spelled, stands-first, stands-second, content-stands, walked-file}
+use Rattle.matroska_read.specs.Places.{attached_at}
 use Rattle.cook_top.specs.RoundTrip.{file_names, shown_file, shown_side}
 use Rattle.cook_top.proofs.ProfileLaws.{Keeps}
 use Rattle.cook_top.proofs.AttachmentLaws.{attached_content, length-attached_content-le, length-attached_file-le, file_read-attached}
@@ -94,13 +96,13 @@ files_seen bytes end place uid before [] rest small stands within =
     record { files = []; walk = (λ i. walked ebml visit_attachments end (sym (append-nil before) i) (none i) bytes); shown = refl }
 files_seen bytes end place uid before (file ∷ files) rest small stands within =
     let here = attached_content file.0 false uid file.1 in
-    let piece = element 0x61A7 here in
+    let piece = element ATTACHED_FILE here in
     let later = attached_from (uid + 1) files in
     let whole : length (piece ++ later) ≡ length piece + length later = length-append piece later in
     let short = small.0.name in
     let content = small.0.content in
     let most = length-attached_content-le file.0 false uid file.1 in
-    let is : IsSpelled bytes end place 0x61A7 here (later ++ rest) = record { known = refl; small = omega arith; stands = stands-first bytes place piece later rest stands; within = omega arith } in
+    let is : IsSpelled bytes end place ATTACHED_FILE here (later ++ rest) = record { known = refl; small = omega arith; stands = stands-first bytes place piece later rest stands; within = omega arith } in
     let read = file_read-attached bytes end place file.0 false uid file.1 (later ++ rest) (omega arith) (omega arith) is in
     let others = files_seen bytes end (place + length piece) (uid + 1) (before ++ read.file ∷ []) files rest small.1 (stands-second bytes place piece later rest stands) (omega arith) in
     record {
@@ -118,25 +120,25 @@ pub record AreSeen (bytes : List ℕ) (element : Element) (directory : List File
   pub shown : map (attached_at bytes) files ≡ map shown_file directory ++ shown_side (map other_record directory) ∷ []
 
 side_content : List File → List ℕ
-side_content directory = attached_content (codes "cook.rev") true (length directory + 1) (side_data_of (map other_record directory))
+side_content directory = attached_content SIDE_NAME.now true (length directory + 1) (side_data_of (map other_record directory))
 
 -- at this stage each file is attached as it is
 with_side : (directory others : List File) → List ℕ
-with_side directory others = attached_from 1 others ++ attached_file (codes "cook.rev") true (length others + 1) (side_data_of (map other_record directory))
+with_side directory others = attached_from 1 others ++ attached_file SIDE_NAME.now true (length others + 1) (side_data_of (map other_record directory))
 
 attachments-flat : (directory : List File) → attachments_of directory ≡ with_side directory directory
 unfolding attachments_of with_side
 attachments-flat directory = ap (with_side directory) (others-all directory)
 
-attachments-are : (directory : List File) → attachments_of directory ≡ attached_from 1 directory ++ element 0x61A7 (side_content directory)
+attachments-are : (directory : List File) → attachments_of directory ≡ attached_from 1 directory ++ element ATTACHED_FILE (side_content directory)
 unfolding with_side attached_file side_content
 attachments-are directory = attachments-flat directory
 
 length-side_content-le : (directory : List File) → Keeps directory → length (side_content directory) ≤ 1051000100
 unfolding side_content
 length-side_content-le directory keeps =
-    let count : length (codes "cook.rev") ≡ 8 = refl in
-    omega (arith, keeps.few, length-side_data-le directory keeps.relative, length-attached_content-le (codes "cook.rev") true (length directory + 1) (side_data_of (map other_record directory)))
+    let count : length SIDE_NAME.now ≡ 8 = refl in
+    omega (arith, keeps.few, length-side_data-le directory keeps.relative, length-attached_content-le SIDE_NAME.now true (length directory + 1) (side_data_of (map other_record directory)))
 
 pub small_files : (directory : List File) → Keeps directory → AllByRecursion IsSmall directory
 unfolding content_len
@@ -145,7 +147,7 @@ small_files directory keeps = are_small directory (recursion_from_All IsRelative
 pub length-attachments-le : (directory : List File) → Keeps directory → length (attachments_of directory) ≤ 2 ^ 51
 unfolding with_side content_len
 length-attachments-le directory keeps =
-    let count : length (codes "cook.rev") ≡ 8 = refl in
+    let count : length SIDE_NAME.now ≡ 8 = refl in
     omega (
       arith,
       ap length (attachments-flat directory),
@@ -153,8 +155,8 @@ length-attachments-le directory keeps =
       keeps.small,
       length-attached_from-le 1 directory (small_files directory keeps),
       length-side_data-le directory keeps.relative,
-      length-append (attached_from 1 directory) (attached_file (codes "cook.rev") true (length directory + 1) (side_data_of (map other_record directory))),
-      length-attached_file-le (codes "cook.rev") true (length directory + 1) (side_data_of (map other_record directory)),
+      length-append (attached_from 1 directory) (attached_file SIDE_NAME.now true (length directory + 1) (side_data_of (map other_record directory))),
+      length-attached_file-le SIDE_NAME.now true (length directory + 1) (side_data_of (map other_record directory)),
     )
 
 -- the side data, behind which the Attachments end
@@ -163,19 +165,19 @@ record SideSeen (bytes : List ℕ) (end place : ℕ) (before : List FileAt) (dir
   walk : walked ebml visit_attachments end before place bytes ≡ Ok (before ++ side ∷ [])
   shown : attached_at bytes side ≡ shown_side (map other_record directory)
 
-side_seen : (bytes : List ℕ) (end place : ℕ) (before : List FileAt) (directory : List File) (rest : List ℕ) → Keeps directory → Stands bytes place (element 0x61A7 (side_content directory)) rest → end ≡ place + length (element 0x61A7 (side_content directory))
+side_seen : (bytes : List ℕ) (end place : ℕ) (before : List FileAt) (directory : List File) (rest : List ℕ) → Keeps directory → Stands bytes place (element ATTACHED_FILE (side_content directory)) rest → end ≡ place + length (element ATTACHED_FILE (side_content directory))
     → SideSeen bytes end place before directory
 unfolding side_content
 side_seen bytes end place before directory rest keeps stands is_end =
-    let count : length (codes "cook.rev") ≡ 8 = refl in
+    let count : length SIDE_NAME.now ≡ 8 = refl in
     let short = length-side_content-le directory keeps in
     let most = length-side_data-le directory keeps.relative in
-    let is : IsSpelled bytes end place 0x61A7 (side_content directory) rest = record { known = refl; small = omega arith; stands = stands; within = omega arith } in
-    let read = file_read-attached bytes end place (codes "cook.rev") true (length directory + 1) (side_data_of (map other_record directory)) rest (omega arith) (omega (arith, keeps.few)) is in
+    let is : IsSpelled bytes end place ATTACHED_FILE (side_content directory) rest = record { known = refl; small = omega arith; stands = stands; within = omega arith } in
+    let read = file_read-attached bytes end place SIDE_NAME.now true (length directory + 1) (side_data_of (map other_record directory)) rest (omega arith) (omega (arith, keeps.few)) is in
     record {
       side = read.file;
       walk = walked-file bytes end place (side_content directory) rest before read.file is read.read
-          ∙ walked-end visit_attachments end (before ++ read.file ∷ []) (place + length (element 0x61A7 (side_content directory))) bytes (omega arith);
+          ∙ walked-end visit_attachments end (before ++ read.file ∷ []) (place + length (element ATTACHED_FILE (side_content directory))) bytes (omega arith);
       shown = read.is;
     }
 
@@ -185,10 +187,10 @@ side_then : (bytes : List ℕ) (end start next : ℕ) (parent : Element) (middle
 side_then bytes end start next parent middle last starts ends first later = (λ i. walked ebml visit_attachments (ends i) [] (starts i) bytes) ∙ first ∙ later
 
 content_seen : (bytes : List ℕ) (end start : ℕ) (directory : List File) (rest : List ℕ) (parent : Element) → parent.start ≡ start → parent.end ≡ end → Keeps directory
-    → Stands bytes start (attached_from 1 directory ++ element 0x61A7 (side_content directory)) rest → end ≡ start + length (attached_from 1 directory ++ element 0x61A7 (side_content directory)) → AreSeen bytes parent directory
+    → Stands bytes start (attached_from 1 directory ++ element ATTACHED_FILE (side_content directory)) rest → end ≡ start + length (attached_from 1 directory ++ element ATTACHED_FILE (side_content directory)) → AreSeen bytes parent directory
 content_seen bytes end start directory rest parent starts ends keeps stands is_end =
     let first = attached_from 1 directory in
-    let last = element 0x61A7 (side_content directory) in
+    let last = element ATTACHED_FILE (side_content directory) in
     let whole : length (first ++ last) ≡ length first + length last = length-append first last in
     let files = files_seen bytes end start 1 [] directory (last ++ rest) (small_files directory keeps) (stands-first bytes start first last rest stands) (omega arith) in
     let side = side_seen bytes end (start + length first) files.files directory rest keeps (stands-second bytes start first last rest stands) (omega arith) in
@@ -198,11 +200,11 @@ content_seen bytes end start directory rest parent starts ends keeps stands is_e
       shown = map-append (attached_at bytes) files.files (side.side ∷ []) ∙ (λ i. files.shown i ++ side.shown i ∷ []);
     }
 
-pub attachments_are_seen : (bytes : List ℕ) (end place : ℕ) (directory : List File) (rest : List ℕ) → Keeps directory → IsSpelled bytes end place 0x1941A469 (attachments_of directory) rest
-    → AreSeen bytes (spelled place 0x1941A469 (length (attachments_of directory))) directory
+pub attachments_are_seen : (bytes : List ℕ) (end place : ℕ) (directory : List File) (rest : List ℕ) → Keeps directory → IsSpelled bytes end place ATTACHMENTS (attachments_of directory) rest
+    → AreSeen bytes (spelled place ATTACHMENTS (length (attachments_of directory))) directory
 attachments_are_seen bytes end place directory rest keeps is =
-    let seen = spelled place 0x1941A469 (length (attachments_of directory)) in
-    let stands = content-stands bytes end place 0x1941A469 (attachments_of directory) rest is in
+    let seen = spelled place ATTACHMENTS (length (attachments_of directory)) in
+    let stands = content-stands bytes end place ATTACHMENTS (attachments_of directory) rest is in
     let are = attachments-are directory in
     content_seen bytes seen.end seen.start directory rest seen refl refl keeps
     (record { here = stands.here ∙ ap (λ (l : List ℕ). l ++ rest) are })

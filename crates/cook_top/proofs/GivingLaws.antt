@@ -3,7 +3,7 @@ use Rattle.std.proofs.Common.{◌≡◌, inl, inr, ℕ, ◌+◌, ◌<◌, ◌≤
 use Rattle.std.proofs.Math.Seq.{take-length}
 use Rattle.std.proofs.lemmas.List.Sums.{sum_by_more}
 use Rattle.cook_bits.specs.Names.{File, full_name}
-use Rattle.shelf_core.specs.Told.{Told, IsTold, HasFile, Pending, content, no_file, under, with_file, with_files}
+use Rattle.shelf_core.specs.Told.{Told, IsTold, HasFile, Unsealed, content, no_file, under, with_file, with_files}
 use Rattle.shelf_core.proofs.RestoredLaws.{with_files-one_more, with_files-none, with_files-all, IsTold-with_files_stays, not_there-with_files}
 use Rattle.cook_restore.specs.Meaning.{meaning_of}
 use Rattle.cook_restore.specs.Restoring.{Fits, IsOpened, KeepsPackage, IsMeant, IsMeantWhereTold, IsEnd, IsEndWhereTold, IsGiven, IsThrough, IsInTheWay, IsGivenPartly, LeavesNext, HasFileIn, with_given, next_name}
@@ -106,11 +106,11 @@ under_way-opened told now pkg dir restorer sum same empty opened no_file_yet no_
   bytes = λ known. no_byte ∙ ap (λ n. total_length (take n (meant told pkg).files)) (sym opened.first);
 }
 
-pub under_way-next : (told now after : Told) (pending pending_after : Pending) (pkg dir : List ℕ) (before restorer : Restorer) (given : FileSum) (sum next : RestoreSum)
-    → IsUnderWay told now pkg dir before sum → IsGiven now after pending pending_after before restorer given → KeepsPackage before restorer
+pub under_way-next : (told now after : Told) (unsealed_before unsealed_after : Unsealed) (pkg dir : List ℕ) (before restorer : Restorer) (given : FileSum) (sum next : RestoreSum)
+    → IsUnderWay told now pkg dir before sum → IsGiven now after unsealed_before unsealed_after before restorer given → KeepsPackage before restorer
     → (IsTold now → content after before.pkg ≡ content now before.pkg) → HasFile after before.pkg → next.files ≡ sum.files + 1 → next.bytes ≡ sum.bytes + given.length
     → IsUnderWay told after pkg dir restorer next
-under_way-next told now after pending pending_after pkg dir before restorer given sum next way is kept stays there one_file its_bytes = record {
+under_way-next told now after unsealed_before unsealed_after pkg dir before restorer given sum next way is kept stays there one_file its_bytes = record {
   named = kept.pkg ∙ way.named;
   aimed = kept.target ∙ way.aimed;
   running = is.running;
@@ -141,13 +141,13 @@ restored-ends told now after pkg dir restorer sum last way same end = record {
   files = files_all told now after dir (meant told pkg).files restorer.number way.files same (λ known. (end_next told now pkg dir restorer sum last way end known).files);
 }
 
-pub restored-through : (told now after : Told) (pending pending_after : Pending) (pkg dir : List ℕ) (before restorer : Restorer) (sum : RestoreSum) → IsUnderWay told now pkg dir before sum
-    → IsThrough now after pending pending_after before restorer → IsRestored told after pkg dir None
-restored-through told now after pending pending_after pkg dir before restorer sum way through = restored-ends told now after pkg dir before sum None way through.files (through.whole way.running)
+pub restored-through : (told now after : Told) (unsealed_before unsealed_after : Unsealed) (pkg dir : List ℕ) (before restorer : Restorer) (sum : RestoreSum) → IsUnderWay told now pkg dir before sum
+    → IsThrough now after unsealed_before unsealed_after before restorer → IsRestored told after pkg dir None
+restored-through told now after unsealed_before unsealed_after pkg dir before restorer sum way through = restored-ends told now after pkg dir before sum None way through.files (through.whole way.running)
 
-pub sum-through : (told now after : Told) (pending pending_after : Pending) (pkg dir : List ℕ) (before restorer : Restorer) (sum : RestoreSum) → IsUnderWay told now pkg dir before sum
-    → IsThrough now after pending pending_after before restorer → IsTold told → IsSumOf (meant told pkg).files sum
-sum-through told now after pending pending_after pkg dir before restorer sum way through known = record {
+pub sum-through : (told now after : Told) (unsealed_before unsealed_after : Unsealed) (pkg dir : List ℕ) (before restorer : Restorer) (sum : RestoreSum) → IsUnderWay told now pkg dir before sum
+    → IsThrough now after unsealed_before unsealed_after before restorer → IsTold told → IsSumOf (meant told pkg).files sum
+sum-through told now after unsealed_before unsealed_after pkg dir before restorer sum way through known = record {
   files = way.count ∙ sym all;
   bytes = way.bytes known ∙ ap (λ n. total_length (take n (meant told pkg).files)) (sym all) ∙ ap total_length (take-length (meant told pkg).files);
 }
@@ -158,9 +158,9 @@ sum-through told now after pending pending_after pkg dir before restorer sum way
 -- ---- a stop
 
 -- where the shelf tells, the target's own files are in nobody's way
-pub not_in_the_way : (told now after : Told) (pending pending_after : Pending) (pkg dir : List ℕ) (before : Restorer) (sum : RestoreSum) (number : ℕ) → IsUnderWay told now pkg dir before sum
-    → IsInTheWay now after pending pending_after before number → IsTold told → ⊥
-not_in_the_way told now after pending pending_after pkg dir before sum number way is known =
+pub not_in_the_way : (told now after : Told) (unsealed_before unsealed_after : Unsealed) (pkg dir : List ℕ) (before : Restorer) (sum : RestoreSum) (number : ℕ) → IsUnderWay told now pkg dir before sum
+    → IsInTheWay now after unsealed_before unsealed_after before number → IsTold told → ⊥
+not_in_the_way told now after unsealed_before unsealed_after pkg dir before sum number way is known =
     not_there-with_files told dir (meant told pkg).files before.number way.empty (files_in_order (content told pkg)).relative (files_in_order (content told pkg)).ascending m.within there known
   where
     m : IsMeant (meant told pkg) before.number (next_name before) is.bytes
@@ -200,11 +200,11 @@ cut told now after pkg dir name bytes files k front so_far is short inside next 
       ∙ ap (λ (file : File). with_file (with_files told dir (take k files)) (full_name dir file.0) (take front file.1)) (sym next);
 }
 
-cut_short : (told now after : Told) (pending pending_after : Pending) (pkg dir : List ℕ) (before : Restorer) (sum : RestoreSum) → IsUnderWay told now pkg dir before sum → IsGivenPartly now after pending pending_after before → IsUnfinished told after pkg dir
+cut_short : (told now after : Told) (unsealed_before unsealed_after : Unsealed) (pkg dir : List ℕ) (before : Restorer) (sum : RestoreSum) → IsUnderWay told now pkg dir before sum → IsGivenPartly now after unsealed_before unsealed_after before → IsUnfinished told after pkg dir
 unfolding IsTold
-cut_short None now after pending pending_after pkg dir before sum way partly =
+cut_short None now after unsealed_before unsealed_after pkg dir before sum way partly =
     inl (partly.left.files ∙ ap (λ t. with_file t (full_name partly.dir (next_name before)) (take partly.left.count partly.bytes)) (way.files ∙ with_files-untold dir _) ∙ with_file-untold _ _)
-cut_short (Some held) now after pending pending_after pkg dir before sum way partly =
+cut_short (Some held) now after unsealed_before unsealed_after pkg dir before sum way partly =
     let m : IsMeant (meant (Some held) pkg) before.number (next_name before) partly.bytes = meant_next (Some held) now pkg dir before sum partly.bytes way partly.meant tt in
     let same : partly.dir ≡ dir = same_some (sym partly.target ∙ way.aimed) in
     inr (record {
@@ -219,6 +219,6 @@ cut_short (Some held) now after pending pending_after pkg dir before sum way par
     same_some : {a b : List ℕ} → Some a ≡ Some b → a ≡ b
     same_some e = cc
 
-pub unfinished : (told now after : Told) (pending pending_after : Pending) (pkg dir : List ℕ) (before : Restorer) (sum : RestoreSum) → IsUnderWay told now pkg dir before sum → LeavesNext now after pending pending_after before → IsUnfinished told after pkg dir
-unfinished told now after pending pending_after pkg dir before sum way (inl nothing) = nothing_more told now after pkg dir before sum way nothing.files
-unfinished told now after pending pending_after pkg dir before sum way (inr partly) = cut_short told now after pending pending_after pkg dir before sum way partly
+pub unfinished : (told now after : Told) (unsealed_before unsealed_after : Unsealed) (pkg dir : List ℕ) (before : Restorer) (sum : RestoreSum) → IsUnderWay told now pkg dir before sum → LeavesNext now after unsealed_before unsealed_after before → IsUnfinished told after pkg dir
+unfinished told now after unsealed_before unsealed_after pkg dir before sum way (inl nothing) = nothing_more told now after pkg dir before sum way nothing.files
+unfinished told now after unsealed_before unsealed_after pkg dir before sum way (inr partly) = cut_short told now after unsealed_before unsealed_after pkg dir before sum way partly

@@ -7,7 +7,7 @@ use Rattle.std.proofs.lemmas.List.Elements.{All-from_recursion}
 use Rattle.std.proofs.lemmas.List.Sums.{sum_by-cons, sum_by_push}
 use Rattle.cook_bits.specs.Names.{File, IsRelativeName, holds_folder_of}
 use Rattle.cook_pack.specs.declared.error.RefuseWhy.{RefuseWhy}
-use Rattle.cook_pack.specs.Offence.{Listed, listed, names_of, broken_by_listing, broken_by_file, broken_rules, first_broken, or_later, offence_from, offence_of_directory, IsInProfile}
+use Rattle.cook_pack.specs.Offence.{Listed, listed, names_of, broken_by_listing, broken_by_file, broken_rules, first_offence, or_later, offence_from, offence_of_directory, IsInProfile}
 use Rattle.cook_top.specs.RoundTrip.{file_names}
 
 -- what the rules of the profile say of a whole directory
@@ -19,8 +19,8 @@ pub record Keeps (directory : List File) : Type 0 where
 
 -- ---- an entry that breaks no rule
 
-rule_passes : (broken : Bool) (why : RefuseWhy) (rules : List (Bool × RefuseWhy)) → first_broken ((broken, why) ∷ rules) ≡ None → (broken ≡ false) × (first_broken rules ≡ None)
-unfolding first_broken
+rule_passes : (broken : Bool) (why : RefuseWhy) (rules : List (Bool × RefuseWhy)) → first_offence ((broken, why) ∷ rules) ≡ None → (broken ≡ false) × (first_offence rules ≡ None)
+unfolding first_offence
 rule_passes true why rules none = absurd (cc)
 rule_passes false why rules none = (refl, none)
 
@@ -42,7 +42,7 @@ record Passes (listing before : List Listed) (entry : Listed) : Type 0 where
   few : length before < 1000000
   small : sum_by bytes_of before + bytes_of entry ≤ 2 ^ 50
 
-passes : (listing before : List Listed) (entry : Listed) → first_broken (broken_rules listing before entry) ≡ None → Passes listing before entry
+passes : (listing before : List Listed) (entry : Listed) → first_offence (broken_rules listing before entry) ≡ None → Passes listing before entry
 unfolding broken_by_listing broken_by_file bytes_of
 passes listing before entry none =
     let plain = rule_passes _ _ _ none in

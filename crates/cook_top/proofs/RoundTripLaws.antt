@@ -19,11 +19,11 @@ use Rattle.reversal.proofs.Round.{read_again}
 use Rattle.cook_pack.specs.Offence.{IsInProfile}
 use Rattle.cook_pack.specs.Package.{package_of, other_record}
 use Rattle.cook_pack.proofs.PlannedLaws.{others-all}
-use Rattle.cook_restore.specs.Places.{Attached, Outline}
+use Rattle.matroska_read.specs.Places.{Attached, Outline}
 use Rattle.cook_restore.specs.declared.error.FileWhy.{FileWhy}
 use Rattle.cook_restore.specs.Meaning.{side_seen, others_seen, seen_as, checked, content_of_file, content_meant, with_file_meant, files_meant, records_meant, side_meant, outline_meant, meaning_of}
-use Rattle.cook_restore.specs.Outline.{outline_of}
-use Rattle.cook_restore.proofs.SpelledWalk.{same_id}
+use Rattle.matroska_read.specs.Outline.{outline_of}
+use Rattle.matroska_read.proofs.SpelledWalk.{same_id}
 use Rattle.cook_top.specs.RoundTrip.{file_names, IsDirectory, shown_file, shown_side, outline_shown}
 use Rattle.cook_top.proofs.ProfileLaws.{Keeps, keeps}
 use Rattle.cook_top.proofs.AttachmentsLaws.{IsSmall, small_files, names-recorded}

@@ -2,7 +2,7 @@
 use Rattle.std.specs.Prelude.{◌≡◌, ◌⊎◌, ℕ, ◌<◌, List, length, Option, Some, None}
 use Rattle.shelf_core.specs.Causes.{Rose}
 use Rattle.shelf_core.specs.Reads.{Tells}
-use Rattle.shelf_core.specs.Told.{Told, IsTold, HasFile, IsFree, Pending, under, with_file}
+use Rattle.shelf_core.specs.Told.{Told, IsTold, HasFile, IsFree, Unsealed, under, with_file}
 use Rattle.shelf_core.specs.Report.{Text, with_text, WrittenPartly}
 use Rattle.shelf_core.specs.declared.shelf.Shelf.{Ghosts}
 use Rattle.shelf_core.specs.declared.sink.Sink.{Ghosts as SinkGhosts}
@@ -76,11 +76,11 @@ ObeysOrder g old new (Some (Pack workers rate dir pkg)) status = PackLaw g old n
 ObeysOrder g old new (Some (Restore workers pkg dir)) status = RestoreLaw (g.files old) (g.files new) pkg dir status
 
 -- what was written is sealed, but after a fault, want of memory or a file that changed
-abbrev pub KeepsUnsealed : Pending → Pending → Status → Type 0
-KeepsUnsealed pending after ShelfFault = Unit {0}
-KeepsUnsealed pending after NoMemory = Unit {0}
-KeepsUnsealed pending after (Changed name was now) = Unit {0}
-KeepsUnsealed pending after status = after ≡ pending
+abbrev pub KeepsUnsealed : Unsealed → Unsealed → Status → Type 0
+KeepsUnsealed unsealed_before after ShelfFault = Unit {0}
+KeepsUnsealed unsealed_before after NoMemory = Unit {0}
+KeepsUnsealed unsealed_before after (Changed name was now) = Unit {0}
+KeepsUnsealed unsealed_before after status = after ≡ unsealed_before
 
 -- over the shelf
 abbrev pub KeepsSealed : {S : Type 0} → Ghosts S → S → S → Status → Type 0
@@ -131,6 +131,10 @@ abbrev pub AnswersFirst : {S : Type 0} → Ghosts S → S → Option Order → S
 AnswersFirst g old None status = Unit {0}
 AnswersFirst g old (Some (Pack workers rate dir pkg)) status = IsFirstAnswer g old dir pkg status
 AnswersFirst g old (Some (Restore workers pkg dir)) status = RestoreFirst (g.files old) pkg dir status
+
+-- the answer of an order is the one of its case, where the shelf tells its files and no count of faults rose
+abbrev pub IsComplete : {S O : Type 0} → Ghosts S → SinkGhosts O → Option Order → S → S → O → O → Status → Type 0
+IsComplete g h order old new out out_now status = Tells g old → NeverFailed g old new → NeverRefused h out out_now → AnswersFirst g old order status
 
 -- ---- the report law
 

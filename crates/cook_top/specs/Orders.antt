@@ -1,7 +1,7 @@
 -- What the words of a command line order. Words and names are lists of the bytes of their UTF-8.
 use Rattle.std.specs.Prelude.{ℕ, ◌-◌, Bool, ◌&&◌, not, List, [], ◌∷◌, length, Option, Some, None, slice_index, nat_eq, nat_le, ◌==◌, codes, if◌then◌else◌}
 use Rattle.std.specs.List.{list_any}
-use Rattle.cook_bits.specs.Names.{is_same_name}
+use Rattle.shelf_reader.specs.Seen.{is_same_text}
 
 -- to put the files under the root `dir` into the package `pkg` at a rate of frames a second, or to give the files of a
 -- package back under a root, by so many workers
@@ -54,8 +54,8 @@ restore_order_of pkg dir = if is_file_name pkg && is_name dir then Some (Restore
 -- the order that a command and two words behind it are, if they are one
 unfoldable pub command_order_of : List ℕ → List ℕ → List ℕ → Option Order
 command_order_of command first second =
-    if is_same_name command (codes "pack") then pack_order_of first second
-    else (if is_same_name command (codes "restore") then restore_order_of first second
+    if is_same_text command (codes "pack") then pack_order_of first second
+    else (if is_same_text command (codes "restore") then restore_order_of first second
     else None)
 
 -- the order that the words are, if they are one

@@ -1,16 +1,17 @@
 -- The laws of the round trip: what a reader sees of the package of a directory, and what the package gives back.
-use Rattle.std.specs.Prelude.{◌≡◌, ℕ, ◌≤◌, true, false, List, [], ◌∷◌, ◌++◌, length, map, codes, None, Ok, All, IsUtf8}
+use Rattle.std.specs.Prelude.{◌≡◌, ℕ, ◌≤◌, true, false, List, [], ◌∷◌, ◌++◌, length, map, None, Ok, All, IsUtf8}
 use Rattle.std.specs.List.{AllAdjacentBelow}
 use Rattle.cook_bits.specs.Names.{File}
+use Rattle.matroska_names.specs.declared.texts.TheConstants.{SIDE_NAME}
 use Rattle.reversal.specs.SideData.{side_data_of}
 use Rattle.reversal.specs.declared.record.FileRecord.{FileRecord}
 use Rattle.cook_pack.specs.Offence.{IsInProfile}
 use Rattle.cook_pack.specs.Planned.{IsBefore}
 use Rattle.cook_pack.specs.Package.{package_of, others_of, records_of}
-use Rattle.cook_restore.specs.Outline.{outline_of}
-use Rattle.cook_restore.specs.Places.{Attached, Block, Outline}
+use Rattle.matroska_read.specs.Outline.{outline_of}
+use Rattle.matroska_read.specs.Places.{Attached, Block, Outline}
 use Rattle.cook_restore.specs.Meaning.{meaning_of}
-use Rattle.cook_restore.specs.declared.matroska_read.tracks.Track.{Track}
+use Rattle.matroska_read.specs.declared.tracks.Track.{Track}
 
 -- the names of a directory's files
 abbrev pub file_names : List File → List (List ℕ)
@@ -29,7 +30,7 @@ shown_file file = record { name = file.0; side = false; content = file.1 }
 
 -- side data
 abbrev pub shown_side : List FileRecord → Attached
-shown_side records = record { name = codes "cook.rev"; side = true; content = side_data_of records }
+shown_side records = record { name = SIDE_NAME.now; side = true; content = side_data_of records }
 
 -- the tracks: none, as long as no file is coded
 abbrev pub tracks_shown : List File → ℕ → List Track

@@ -39,7 +39,7 @@ fn write_piece<O: Sink>(out: &mut O, piece: Piece<'_>) -> Result<(), SinkFailed>
 }
 
 // Writes pieces one after another, up to the first that fails.
-#[tactic(auto, using(shelf_core::proofs::ReportLaws::written_laws))]
+#[tactic(auto, using(shelf_core::specs::ReportLaws::written_laws))]
 fn write_pieces<O: Sink>(out: &mut O, pieces: &[Piece<'_>]) -> Result<(), SinkFailed>
     ensures ok { OnOk result (Printed O.Sink out.old out.new (flat_map piece_bytes pieces.now)) }
     ensures err { OnErr result (PrintedInPart O.Sink out.old out.new (flat_map piece_bytes pieces.now)) }
@@ -187,7 +187,7 @@ fn write_changed<O: Sink>(out: &mut O, name: &str, was: u64, now: u64) -> Result
 
 /// Writes the line that says why a command ended otherwise than by its work, and nothing where its work was done.
 /// It takes no memory.
-#[tactic(auto, using(shelf_core::proofs::ReportLaws::written_laws), unfolding(crate::specs::Texts::line_of))]
+#[tactic(auto, using(shelf_core::specs::ReportLaws::written_laws), unfolding(crate::specs::Texts::line_of))]
 pub fn write_line<O: Sink>(out: &mut O, status: &Status) -> Result<(), SinkFailed>
     ensures ok { OnOk result (Printed O.Sink out.old out.new (line_of status.now)) }
     ensures err { OnErr result (PrintedInPart O.Sink out.old out.new (line_of status.now)) }

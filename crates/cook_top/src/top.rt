@@ -2,11 +2,12 @@ ghost use Rattle.std.specs.Prelude.{◌≡◌, ◌≤◌, ◌↔◌, map, string
 ghost use Rattle.shelf_core.specs.Reads.{CountsStay, Tells};
 ghost use Rattle.cook_pack.specs.Planned.{directory_of};
 ghost use Rattle.cook_pack.specs.Sum.{IsSumOf};
-ghost use Rattle.cook_top.specs.Laws.{PackLaw, ObeysOrder, KeepsSealed, Shows, ShowsFor, AnswersFirst, NeverFailed, NeverRefused, ReportsOrder, IsDoneOr, Writes};
+ghost use Rattle.cook_top.specs.Laws.{PackLaw, ObeysOrder, KeepsSealed, Shows, NeverRefused, IsComplete, ReportsOrder, IsDoneOr, Writes};
 ghost use Rattle.cook_top.specs.Orders.{order_of};
 ghost use Rattle.cook_top.specs.Orders.Order.{Pack as OrderPack, Restore as OrderRestore};
 ghost use Rattle.cook_top.specs.Printing.{FaultsRose, FaultsStay, Printed, PrintedInPart};
 ghost use Rattle.cook_top.specs.Restoring.{SealsAll, StopsRestoring};
+ghost use Rattle.cook_top.specs.Packing.{ShowsPackError};
 ghost use Rattle.cook_top.specs.Statuses.{status_of_pack_error};
 ghost use Rattle.cook_top.specs.Texts.{line_of, pack_line, restore_line};
 
@@ -32,8 +33,7 @@ fn pack_directory<S: Shelf>(
     ensures sum { IfOk result (λ sum. Tells S.Shelf shelf.old → IsSumOf (directory_of S.Shelf shelf.old dir.now) options.rate sum) }
     ensures sealed { IfOk result (λ _. SealsAll S.Shelf shelf.old shelf.new) }
     ensures unsealed { IfErr result (λ error. KeepsSealed S.Shelf shelf.old shelf.new (status_of_pack_error error)) }
-    ensures cause { let order = Some (OrderPack options.workers options.rate dir.now pkg.now) in
-        (sink sink_now : ℕ) → IfErr result (λ error. ShowsFor S.Shelf order shelf.old shelf.new sink sink_now (status_of_pack_error error)) }
+    ensures cause { IfErr result (λ error. ShowsPackError S.Shelf options.workers options.rate dir.now pkg.now shelf.old shelf.new error) }
     ensures counts { CountsStay S.Shelf shelf.old shelf.new }
 {
     let plan = plan(alloc, shelf, dir)?;
@@ -76,10 +76,8 @@ fn pack_order<S: Shelf, O: Sink>(
     requires rate { (1 ≤ options.rate) × (options.rate ≤ 240) }
     ensures law { PackLaw S.Shelf shelf.old shelf.new options.rate dir.now pkg.now result }
     ensures sealed { KeepsSealed S.Shelf shelf.old shelf.new result }
-    ensures shown { let order = Some (OrderPack options.workers options.rate dir.now pkg.now) in
-        Shows S.Shelf O.Sink order shelf.old shelf.new out.old out.new result }
-    ensures report { let order = Some (OrderPack options.workers options.rate dir.now pkg.now) in
-        ReportsOrder S.Shelf O.Sink order shelf.old out.old out.new result }
+    ensures shown { Shows S.Shelf O.Sink (Some (OrderPack options.workers options.rate dir.now pkg.now)) shelf.old shelf.new out.old out.new result }
+    ensures report { ReportsOrder S.Shelf O.Sink (Some (OrderPack options.workers options.rate dir.now pkg.now)) shelf.old out.old out.new result }
     ensures counts { CountsStay S.Shelf shelf.old shelf.new }
     ensures sink_kept { FaultsStay O.Sink out.old out.new }
 {
@@ -146,8 +144,7 @@ pub fn cook<S: Shelf, O: Sink>(
     // The report law.
     ensures report { ReportsOrder S.Shelf O.Sink (order_of (map string_bytes words.now)) shelf.old out.old out.new result }
     // The completeness law.
-    ensures complete { Tells S.Shelf shelf.old → NeverFailed S.Shelf shelf.old shelf.new → NeverRefused O.Sink out.old out.new
-        → AnswersFirst S.Shelf shelf.old (order_of (map string_bytes words.now)) result }
+    ensures complete { IsComplete S.Shelf O.Sink (order_of (map string_bytes words.now)) shelf.old shelf.new out.old out.new result }
 {
     let Ok(order) = read_words(words) else {
         return refuse(out, Status::Usage);

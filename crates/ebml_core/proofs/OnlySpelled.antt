@@ -13,7 +13,7 @@ use Rattle.ebml_core.specs.declared.parts.Size.{Size}
 use Rattle.ebml_core.specs.Element.{is_vint, IsIdentifier}
 use Rattle.ebml_core.specs.Reading.{width_of, vint_len, id_at, id_of_len, size_at, size_meant, size_of_len}
 use Rattle.ebml_core.specs.Laws.{SpellsVint, SpellsSize}
-use Rattle.ebml_core.proofs.Prefixes.{chosen}
+use Rattle.ebml_core.specs.Prefixes.{chosen}
 use Rattle.ebml_core.proofs.Readings.{byte_at-power, first_power, pow_pos256, vint_high, vint_low}
 
 -- what stands above a byte leaves it as it is

@@ -14,7 +14,7 @@ use Rattle.ebml_core.specs.declared.parts.Size.TheVariants.{Known}
 use Rattle.ebml_core.specs.Element.{is_vint, IsIdentifier, byte_count, fits_bytes, fits_size, shortest_size, uint_bytes, size_bytes, head_of}
 use Rattle.ebml_core.specs.Reading.{id_at, size_at, size_meant, head_at}
 use Rattle.ebml_core.proofs.Lengths.{least_from-is, least_from-passes, marked_fits}
-use Rattle.ebml_core.proofs.Heads.{length-head_parts, length-uint_bytes, shortest_size-positive, shortest_size-le}
+use Rattle.ebml_core.specs.Heads.{length-head_parts, length-uint_bytes, shortest_size-positive, shortest_size-le}
 use Rattle.ebml_core.proofs.Readings.{vint_low, vint_high, vint_len-spelled}
 
 -- a VINT fits its bytes

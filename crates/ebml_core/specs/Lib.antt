@@ -1,4 +1,6 @@
 pub mod Element
+pub mod Heads
 pub mod Laws
+pub mod Prefixes
 pub mod Rate
 pub mod Reading

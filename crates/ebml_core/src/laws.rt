@@ -24,13 +24,13 @@ pub fn only_spellings_are_read()
 {}
 
 /// A head that bytes begin with stays the same where more bytes follow.
-#[tactic(auto, using(crate::proofs::Prefixes::head_stays))]
+#[tactic(auto, using(crate::specs::Prefixes::head_stays))]
 pub fn head_stays()
     ensures { HeadStays }
 {}
 
 /// The first twelve bytes tell whether there is a head, and which.
-#[tactic(auto, using(crate::proofs::Prefixes::twelve_bytes_tell))]
+#[tactic(auto, using(crate::specs::Prefixes::twelve_bytes_tell))]
 pub fn twelve_bytes_tell()
     ensures { TwelveBytesTell }
 {}

@@ -40,7 +40,7 @@ pub fn shortest_size(size: u64) -> usize
 }
 
 /// Writes the head into the buffer, from its start on, and answers the head's length.
-#[tactic(auto, using(crate::proofs::Heads::heads), unfolding(crate::specs::Element::head_of, crate::specs::Element::uint_bytes, crate::specs::Element::size_bytes))]
+#[tactic(auto, using(crate::specs::Heads::heads), unfolding(crate::specs::Element::head_of, crate::specs::Element::uint_bytes, crate::specs::Element::size_bytes))]
 pub fn write_head(buf: &mut [u8], id: u32, size: u64) -> usize
     requires identifier { IsIdentifier id }
     requires known { size < 2 ^ 56 - 1 }

@@ -6,7 +6,7 @@ use byteorder::{BigEndian, ByteOrder};
 use cook_bits::{Bytes, NoMemory};
 
 /// The length in bytes of the head that [`put_head`] adds. It takes no memory.
-#[tactic(auto, using(crate::proofs::Heads::heads))]
+#[tactic(auto, using(crate::specs::Heads::heads))]
 pub fn head_len(id: u32, size: u64) -> u64
     requires identifier { IsIdentifier id }
     requires known { size < 2 ^ 56 - 1 }
@@ -17,7 +17,7 @@ pub fn head_len(id: u32, size: u64) -> u64
 }
 
 /// The length in bytes of the element that [`put_uint`] adds. It takes no memory.
-#[tactic(auto, using(crate::proofs::Heads::heads), unfolding(crate::specs::Element::uint_element, crate::specs::Element::element, crate::specs::Element::uint_bytes))]
+#[tactic(auto, using(crate::specs::Heads::heads), unfolding(crate::specs::Element::uint_element, crate::specs::Element::element, crate::specs::Element::uint_bytes))]
 pub fn uint_len(id: u32, value: u64) -> u64
     requires { IsIdentifier id }
     ensures len { result ≡ length (uint_element id value) }
@@ -42,7 +42,7 @@ pub fn put_head(out: &mut Bytes, id: u32, size: u64) -> Result<(), NoMemory>
 
 /// Adds an element whose content is the number, big-endian in the fewest bytes, at least one (RFC
 /// 8794, section 7.2). After a refusal `out` is unchanged.
-#[tactic(auto, using(crate::proofs::Heads::heads), unfolding(crate::specs::Element::uint_element, crate::specs::Element::uint_bytes))]
+#[tactic(auto, using(crate::specs::Heads::heads), unfolding(crate::specs::Element::uint_element, crate::specs::Element::uint_bytes))]
 pub fn put_uint(out: &mut Bytes, id: u32, value: u64) -> Result<(), NoMemory>
     requires { IsIdentifier id }
     ensures ok { OnOk result (out.new ≡ out.old ++ uint_element id value) }

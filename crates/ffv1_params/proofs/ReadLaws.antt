@@ -12,7 +12,7 @@ use Rattle.ffv1_params.specs.declared.error.ParamsWhy.TheVariants.{RecordCrc, St
 use Rattle.ffv1_params.specs.declared.error.ParamsWhy.TheVariants as why
 use Rattle.ffv1_params.specs.Parameters.{Parameters}
 use Rattle.ffv1_params.specs.Reading.{give, parameters, start_place, value_of, before_parity, record_read}
-use Rattle.ffv1_params.specs.Walk.{Walk, walk_of, IsAt, Fails, Answers, FailsRead, Gives}
+use Rattle.ffv1_params.specs.Walk.{ReaderAt, reader_at, IsAt, Fails, Answers, FailsRead, Gives}
 
 pub too_short : (bytes : List ℕ) → length bytes < 4 → record_read bytes ≡ Err RecordCrc
 unfolding record_read
@@ -34,7 +34,7 @@ pub read_on : (bytes : List ℕ) → 4 ≤ length bytes → crc32_high_of bytes 
 unfolding record_read
 read_on bytes long none other = rw (le-ltb (length bytes) 4 long, eq-eqb (crc32_high_of bytes) 0 none, ne_eqb (slice_index (before_parity bytes) 0) 255 other) refl
 
-pub begins_at : (reader : Reader) (fresh : List ℕ) (bytes : List ℕ) → fresh ≡ fresh_states → AreLive default_one_states fresh → length fresh ≡ 32 → Begins reader bytes → IsAt (walk_of reader fresh_states) bytes start_place
+pub begins_at : (reader : Reader) (fresh : List ℕ) (bytes : List ℕ) → fresh ≡ fresh_states → AreLive default_one_states fresh → length fresh ≡ 32 → Begins reader bytes → IsAt (reader_at reader fresh_states) bytes start_place
 unfolding narrowed
 begins_at reader fresh bytes is live count begins = record {
   has_read = begins.has_read;
@@ -45,7 +45,7 @@ begins_at reader fresh bytes is live count begins = record {
   count = ap length (sym is) ∙ count;
 }
 
-fails_gives : (walk : Walk) (bytes : List ℕ) (w : ParamsWhy) (total : Result Parameters ParamsWhy) → IsAt walk bytes start_place → total ≡ value_of (parameters bytes start_place) → Fails walk parameters w → FailsRead w total
+fails_gives : (walk : ReaderAt) (bytes : List ℕ) (w : ParamsWhy) (total : Result Parameters ParamsWhy) → IsAt walk bytes start_place → total ≡ value_of (parameters bytes start_place) → Fails walk parameters w → FailsRead w total
 unfolding Fails
 fails_gives walk bytes why.RecordCrc total is_at is here = is ∙ ap value_of (here.refuses bytes start_place is_at)
 fails_gives walk bytes why.Start total is_at is here = is ∙ ap value_of (here.refuses bytes start_place is_at)
@@ -60,7 +60,7 @@ fails_gives walk bytes why.States total is_at is here = is ∙ ap value_of (here
 fails_gives walk bytes why.Ec total is_at is here = is ∙ ap value_of (here.refuses bytes start_place is_at)
 fails_gives walk bytes why.NoMemory total is_at is here = tt
 
-pub gives : (before after : Walk) (bytes : List ℕ) (result : Result Parameters ParamsWhy) (total : Result Parameters ParamsWhy) → IsAt before bytes start_place → total ≡ value_of (parameters bytes start_place) → Answers before after result parameters → Gives result total
+pub gives : (before after : ReaderAt) (bytes : List ℕ) (result : Result Parameters ParamsWhy) (total : Result Parameters ParamsWhy) → IsAt before bytes start_place → total ≡ value_of (parameters bytes start_place) → Answers before after result parameters → Gives result total
 unfolding give
 gives before after bytes (Ok params) total is_at is here = is ∙ ap value_of (here.leads bytes start_place is_at).same
 gives before after bytes (Err w) total is_at is here = fails_gives before bytes w total is_at is here

@@ -9,7 +9,7 @@ use Rattle.range_coder.specs.DefaultTable.{default_one_states}
 use Rattle.range_coder.specs.Laws.{NarrowedIsJoined}
 use Rattle.ffv1_params.specs.Parameters.{stepped, flat}
 use Rattle.ffv1_params.specs.Record.{Field, number, single, table, unsigned_choices, run_choices, field_decisions, states_after_field, fields_decisions, record_decisions, bit_choices, with_parity, record_of, film_fields}
-use Rattle.ffv1_params.specs.Track.{Track, after_field, after_fields}
+use Rattle.ffv1_params.specs.Track.{WriterAt, after_field, after_fields}
 
 -- the bytes of a number are as many as are asked for
 pub length-bytes_high_first : (count n : ℕ) → length (bytes_high_first count n) ≡ count
@@ -18,10 +18,10 @@ length-bytes_high_first (suc count) n = ap suc (length-bytes_high_first count n)
 
 -- ---- value by value
 
-abbrev pub start : Track
+abbrev pub start : WriterAt
 start = record { interval = whole; states = fresh_states }
 
-tracked : NarrowedIsJoined → (track : Track) (fields : List Field) → (after_fields track fields).interval ≡ narrowed track.interval (fields_decisions track.states fields)
+tracked : NarrowedIsJoined → (track : WriterAt) (fields : List Field) → (after_fields track fields).interval ≡ narrowed track.interval (fields_decisions track.states fields)
 unfolding after_field fields_decisions narrowed
 tracked joined track [] = refl
 tracked joined track (field ∷ more) = tracked joined (after_field track field) more ∙ sym (joined track.interval (field_decisions track.states field) (fields_decisions (states_after_field track.states field) more))

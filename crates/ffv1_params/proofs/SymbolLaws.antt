@@ -18,7 +18,7 @@ use Rattle.std.proofs.lemmas.Int.{ints, to_z-of_z}
 use Rattle.ffv1_params.specs.declared.error.ParamsWhy.TheVariants.{Symbol}
 use Rattle.ffv1_params.specs.Record.{unsigned_choices, bit_choices}
 use Rattle.ffv1_params.specs.Reading.{is_read, Place, after, first_below, found_or, number_at, bit_at, symbol, bit, taken, give}
-use Rattle.ffv1_params.specs.Walk.{Walk, walk_of, IsAt, Leads, Refuses}
+use Rattle.ffv1_params.specs.Walk.{ReaderAt, reader_at, IsAt, Leads, Refuses}
 
 -- what the range coder promises of decisions, choices and symbols
 pub record Promises : Type 0 where
@@ -141,7 +141,7 @@ found (suc last) n passes lt here only =
 -- ---- walks
 
 -- the walk after more choices is at the place after them
-come : Promises → (before after_ : Reader) (states left : List ℕ) (choices : List Choice) (bytes : List ℕ) (place : Place) → IsClosed default_one_states → UseSlots 32 choices → Gets default_one_states before states after_ left choices → IsAt (walk_of before states) bytes place → IsAt (walk_of after_ left) bytes (after place choices)
+come : Promises → (before after_ : Reader) (states left : List ℕ) (choices : List Choice) (bytes : List ℕ) (place : Place) → IsClosed default_one_states → UseSlots 32 choices → Gets default_one_states before states after_ left choices → IsAt (reader_at before states) bytes place → IsAt (reader_at after_ left) bytes (after place choices)
 unfolding after
 come promises before after_ states left choices bytes place closed slots gets is_at =
     let T = default_one_states in
@@ -166,10 +166,10 @@ pub record Stands (bytes : List ℕ) (place : Place) : Type 0 where
   pub live : AreLive default_one_states place.states
   pub count : length place.states ≡ 32
 
-stands_of : (walk : Walk) (bytes : List ℕ) (place : Place) → IsAt walk bytes place → Stands bytes place
+stands_of : (walk : ReaderAt) (bytes : List ℕ) (place : Place) → IsAt walk bytes place → Stands bytes place
 stands_of walk bytes place is_at = record { are_bytes = is_at.are_bytes; on_states = is_at.on_states; live = is_at.live; count = is_at.count }
 
-come_reads : Promises → (walk : Walk) (bytes : List ℕ) (place : Place) → IsAt walk bytes place → Reads bytes place.decisions
+come_reads : Promises → (walk : ReaderAt) (bytes : List ℕ) (place : Place) → IsAt walk bytes place → Reads bytes place.decisions
 come_reads promises walk bytes place is_at = record { inside = promises.inside walk.reader bytes (narrowed whole place.decisions) is_at.has_read }
 
 -- what parts from what is read doesn't pass
@@ -220,21 +220,21 @@ number_next promises symbols bytes place n closed lt stands reads =
     let only = λ (m : ℕ) (lm : m < 2 ^ 31) (passes : is_read bytes (after place (unsigned_choices m)).decisions ≡ true). eq_or_not m n (λ differ. parts_fails promises bytes place (unsigned_choices n) (unsigned_choices m) closed slots (symbols.slots (pos m) false) stands reads (numbers_part symbols m n lm lt differ) passes) in
     ap (taken place) (found (2 ^ 31) n (λ m. is_read bytes (after place (unsigned_choices m)).decisions) lt here only)
 
-pub symbol_read : Promises → SymbolPromises → (before after_ : Reader) (states left : List ℕ) (n : ℕ) → IsClosed default_one_states → n < 2 ^ 31 → Gets default_one_states before states after_ left (unsigned_choices n) → Leads (walk_of before states) (walk_of after_ left) symbol (give n)
+pub symbol_read : Promises → SymbolPromises → (before after_ : Reader) (states left : List ℕ) (n : ℕ) → IsClosed default_one_states → n < 2 ^ 31 → Gets default_one_states before states after_ left (unsigned_choices n) → Leads (reader_at before states) (reader_at after_ left) symbol (give n)
 unfolding give
 symbol_read promises symbols before after_ states left n closed lt gets = record {
   leads = λ bytes place is_at.
       let came = come promises before after_ states left (unsigned_choices n) bytes place closed (symbols.slots (pos n) false) gets is_at in
-      record { place = after place (unsigned_choices n); is_at = came; same = number_next promises symbols bytes place n closed lt (stands_of (walk_of before states) bytes place is_at) (come_reads promises (walk_of after_ left) bytes (after place (unsigned_choices n)) came) };
+      record { place = after place (unsigned_choices n); is_at = came; same = number_next promises symbols bytes place n closed lt (stands_of (reader_at before states) bytes place is_at) (come_reads promises (reader_at after_ left) bytes (after place (unsigned_choices n)) came) };
 }
 
-pub overlong_read : Promises → SymbolPromises → (before after_ : Reader) (states left : List ℕ) → IsClosed default_one_states → Gets default_one_states before states after_ left overlong_choices → Refuses (walk_of before states) symbol Symbol
+pub overlong_read : Promises → SymbolPromises → (before after_ : Reader) (states left : List ℕ) → IsClosed default_one_states → Gets default_one_states before states after_ left overlong_choices → Refuses (reader_at before states) symbol Symbol
 unfolding symbol number_at
 overlong_read promises symbols before after_ states left closed gets = record {
   refuses = λ bytes place is_at.
       let came = come promises before after_ states left overlong_choices bytes place closed symbols.overlong_slots gets is_at in
-      let reads = come_reads promises (walk_of after_ left) bytes (after place overlong_choices) came in
-      let none = λ (m : ℕ) (lm : m < 2 ^ 31). is_false (is_read bytes (after place (unsigned_choices m)).decisions) (λ passes. parts_fails promises bytes place overlong_choices (unsigned_choices m) closed symbols.overlong_slots (symbols.slots (pos m) false) (stands_of (walk_of before states) bytes place is_at) reads (overlong_part symbols m lm) passes) in
+      let reads = come_reads promises (reader_at after_ left) bytes (after place overlong_choices) came in
+      let none = λ (m : ℕ) (lm : m < 2 ^ 31). is_false (is_read bytes (after place (unsigned_choices m)).decisions) (λ passes. parts_fails promises bytes place overlong_choices (unsigned_choices m) closed symbols.overlong_slots (symbols.slots (pos m) false) (stands_of (reader_at before states) bytes place is_at) reads (overlong_part symbols m lm) passes) in
       ap (taken place) (not_found (2 ^ 31) (λ m. is_read bytes (after place (unsigned_choices m)).decisions) none);
 }
 
@@ -252,13 +252,13 @@ unfolding bit_at
 bit_next promises bytes place true closed stands reads = reads_passes bytes (after place (bit_choices true)).decisions reads.inside
 bit_next promises bytes place false closed stands reads = is_false (is_read bytes (after place (bit_choices true)).decisions) (λ passes. parts_fails promises bytes place (bit_choices false) (bit_choices true) closed (one_slot false) (one_slot true) stands reads bits_part passes)
 
-pub bit_read : Promises → (before after_ : Reader) (states left : List ℕ) (b : Bool) → IsClosed default_one_states → Gets default_one_states before states after_ left (bit_choices b) → Leads (walk_of before states) (walk_of after_ left) bit (give b)
+pub bit_read : Promises → (before after_ : Reader) (states left : List ℕ) (b : Bool) → IsClosed default_one_states → Gets default_one_states before states after_ left (bit_choices b) → Leads (reader_at before states) (reader_at after_ left) bit (give b)
 unfolding bit give
 bit_read promises before after_ states left b closed gets = record {
   leads = λ bytes place is_at.
       let came = come promises before after_ states left (bit_choices b) bytes place closed (one_slot b) gets is_at in
-      let reads = come_reads promises (walk_of after_ left) bytes (after place (bit_choices b)) came in
-      record { place = after place (bit_choices b); is_at = came; same = ap (λ (x : Bool). Ok (x, after place (bit_choices x))) (bit_next promises bytes place b closed (stands_of (walk_of before states) bytes place is_at) reads) };
+      let reads = come_reads promises (reader_at after_ left) bytes (after place (bit_choices b)) came in
+      record { place = after place (bit_choices b); is_at = came; same = ap (λ (x : Bool). Ok (x, after place (bit_choices x))) (bit_next promises bytes place b closed (stands_of (reader_at before states) bytes place is_at) reads) };
 }
 
 -- ---- for the calls of the range coder
@@ -271,7 +271,7 @@ number_is (negsuc n) codable =
     let low = codable.0 in
     absurd (omega (arith, ints))
 
-pub number_answered : Promises → SymbolPromises → (next : List ℕ) (before after_ : Reader) (states left : List ℕ) (z : ℤ) → next ≡ default_one_states → IsClosed next → IsCodable z false → Gets next before states after_ left (symbol_choices z false) → Leads (walk_of before states) (walk_of after_ left) symbol (give (nat_abs (to_z w32 (of_z w32 z))))
+pub number_answered : Promises → SymbolPromises → (next : List ℕ) (before after_ : Reader) (states left : List ℕ) (z : ℤ) → next ≡ default_one_states → IsClosed next → IsCodable z false → Gets next before states after_ left (symbol_choices z false) → Leads (reader_at before states) (reader_at after_ left) symbol (give (nat_abs (to_z w32 (of_z w32 z))))
 number_answered promises symbols next before after_ states left z is closed codable gets =
     let n = nat_abs (to_z w32 (of_z w32 z)) in
     let same = number_is z codable in
@@ -279,8 +279,8 @@ number_answered promises symbols next before after_ states left z is closed coda
     symbol_read promises symbols before after_ states left n (subst IsClosed is closed) small
     (subst (λ (v : ℤ). Gets default_one_states before states after_ left (symbol_choices v false)) same (subst (λ (t : List ℕ). Gets t before states after_ left (symbol_choices z false)) is gets))
 
-pub number_refused : Promises → SymbolPromises → (next : List ℕ) (before after_ : Reader) (states left : List ℕ) → next ≡ default_one_states → IsClosed next → Gets next before states after_ left overlong_choices → Refuses (walk_of before states) symbol Symbol
+pub number_refused : Promises → SymbolPromises → (next : List ℕ) (before after_ : Reader) (states left : List ℕ) → next ≡ default_one_states → IsClosed next → Gets next before states after_ left overlong_choices → Refuses (reader_at before states) symbol Symbol
 number_refused promises symbols next before after_ states left is closed gets = overlong_read promises symbols before after_ states left (subst IsClosed is closed) (subst (λ (t : List ℕ). Gets t before states after_ left overlong_choices) is gets)
 
-pub bit_answered : Promises → (next : List ℕ) (before after_ : Reader) (states left : List ℕ) (b : Bool) → next ≡ default_one_states → IsClosed next → Gets next before states after_ left (bit_choices b) → Leads (walk_of before states) (walk_of after_ left) bit (give b)
+pub bit_answered : Promises → (next : List ℕ) (before after_ : Reader) (states left : List ℕ) (b : Bool) → next ≡ default_one_states → IsClosed next → Gets next before states after_ left (bit_choices b) → Leads (reader_at before states) (reader_at after_ left) bit (give b)
 bit_answered promises next before after_ states left b is closed gets = bit_read promises before after_ states left b (subst IsClosed is closed) (subst (λ (t : List ℕ). Gets t before states after_ left (bit_choices b)) is gets)

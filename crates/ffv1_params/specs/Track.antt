@@ -5,17 +5,17 @@ use Rattle.range_coder.specs.Table.{IsLive, AreLive}
 use Rattle.range_coder.specs.DefaultTable.{default_one_states}
 use Rattle.ffv1_params.specs.Record.{Field, field_decisions, states_after_field}
 
-pub record Track : Type 0 where
+pub record WriterAt : Type 0 where
   pub interval : Interval
   pub states : List ℕ
 
 -- after a value
-unfoldable pub after_field : Track → Field → Track
+unfoldable pub after_field : WriterAt → Field → WriterAt
 after_field track field =
     record { interval = narrowed track.interval (field_decisions track.states field); states = states_after_field track.states field }
 
 -- after more values
-abbrev pub after_fields : Track → List Field → Track
+abbrev pub after_fields : WriterAt → List Field → WriterAt
 after_fields track [] = track
 after_fields track (field ∷ more) = after_fields (after_field track field) more
 

@@ -12,15 +12,15 @@ use Rattle.ffv1_params.specs.Reading.{Place, Reading, give}
 use Rattle.ffv1_params.specs.Parameters.{Parameters}
 use Rattle.std.specs.Global.{Vec}
 
-pub record Walk : Type 0 where
+pub record ReaderAt : Type 0 where
   pub reader : Reader
   pub states : List ℕ
 
-abbrev pub walk_of : Reader → List ℕ → Walk
-walk_of reader states = record { reader = reader; states = states }
+abbrev pub reader_at : Reader → List ℕ → ReaderAt
+reader_at reader states = record { reader = reader; states = states }
 
 -- the walk has come to a place in the reading of these bytes
-pub record IsAt (walk : Walk) (bytes : List ℕ) (place : Place) : Type 0 where
+pub record IsAt (walk : ReaderAt) (bytes : List ℕ) (place : Place) : Type 0 where
   pub has_read : HasRead walk.reader bytes (narrowed whole place.decisions)
   pub states : walk.states ≡ place.states
   pub are_bytes : AreBytes bytes
@@ -28,35 +28,25 @@ pub record IsAt (walk : Walk) (bytes : List ℕ) (place : Place) : Type 0 where
   pub live : AreLive default_one_states place.states
   pub count : length place.states ≡ 32
 
-pub record Came (walk : Walk) (bytes : List ℕ) {A : Type 0} (read : Result (A × Place) ParamsWhy) (rest : Reading A) : Type 0 where
+pub record Came (walk : ReaderAt) (bytes : List ℕ) {A : Type 0} (read : Result (A × Place) ParamsWhy) (rest : Reading A) : Type 0 where
   pub place : Place
   pub is_at : IsAt walk bytes place
   pub same : read ≡ rest bytes place
 
 -- a reading, before the walk, is the rest of it, behind the walk, whatever the bytes are
-pub record Leads {A : Type 0} (before after : Walk) (reading rest : Reading A) : Type 0 where
+pub record Leads {A : Type 0} (before after : ReaderAt) (reading rest : Reading A) : Type 0 where
   pub leads : (bytes : List ℕ) (place : Place) → IsAt before bytes place → Came after bytes (reading bytes place) rest
 
 -- a reading is refused
-pub record Refuses {A : Type 0} (before : Walk) (reading : Reading A) (why : ParamsWhy) : Type 0 where
+pub record Refuses {A : Type 0} (before : ReaderAt) (reading : Reading A) (why : ParamsWhy) : Type 0 where
   pub refuses : (bytes : List ℕ) (place : Place) → IsAt before bytes place → reading bytes place ≡ Err why
 
 -- what was answered is what the reading gives, unless memory ran out
-unfoldable pub Fails : {A : Type 0} → Walk → Reading A → ParamsWhy → Type 0
+unfoldable pub Fails : {A : Type 0} → ReaderAt → Reading A → ParamsWhy → Type 0
 Fails before reading why.NoMemory = Unit {0}
-Fails before reading why.RecordCrc = Refuses before reading why.RecordCrc
-Fails before reading why.Start = Refuses before reading why.Start
-Fails before reading why.Symbol = Refuses before reading why.Symbol
-Fails before reading why.Version = Refuses before reading why.Version
-Fails before reading why.Coder = Refuses before reading why.Coder
-Fails before reading why.Colour = Refuses before reading why.Colour
-Fails before reading why.Grid = Refuses before reading why.Grid
-Fails before reading why.Tables = Refuses before reading why.Tables
-Fails before reading why.Contexts = Refuses before reading why.Contexts
-Fails before reading why.States = Refuses before reading why.States
-Fails before reading why.Ec = Refuses before reading why.Ec
+Fails before reading refusal = Refuses before reading refusal
 
-abbrev pub Answers : {A : Type 0} → Walk → Walk → Result A ParamsWhy → Reading A → Type 0
+abbrev pub Answers : {A : Type 0} → ReaderAt → ReaderAt → Result A ParamsWhy → Reading A → Type 0
 Answers before after (Ok value) reading = Leads before after reading (give value)
 Answers before after (Err why) reading = Fails before reading why
 
@@ -67,17 +57,7 @@ items_of (Err why) = Err why
 
 abbrev pub FailsRead : ParamsWhy → Result Parameters ParamsWhy → Type 0
 FailsRead why.NoMemory read = Unit {0}
-FailsRead why.RecordCrc read = read ≡ Err why.RecordCrc
-FailsRead why.Start read = read ≡ Err why.Start
-FailsRead why.Symbol read = read ≡ Err why.Symbol
-FailsRead why.Version read = read ≡ Err why.Version
-FailsRead why.Coder read = read ≡ Err why.Coder
-FailsRead why.Colour read = read ≡ Err why.Colour
-FailsRead why.Grid read = read ≡ Err why.Grid
-FailsRead why.Tables read = read ≡ Err why.Tables
-FailsRead why.Contexts read = read ≡ Err why.Contexts
-FailsRead why.States read = read ≡ Err why.States
-FailsRead why.Ec read = read ≡ Err why.Ec
+FailsRead refusal read = read ≡ Err refusal
 
 -- what was answered is what the record means, unless memory ran out
 abbrev pub Gives : Result Parameters ParamsWhy → Result Parameters ParamsWhy → Type 0

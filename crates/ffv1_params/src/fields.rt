@@ -25,9 +25,9 @@ pub(crate) struct FieldWriter {
 }
 
 impl Model for FieldWriter {
-    ghost use Rattle.ffv1_params.specs.Track.{Track, AreUsable};
+    ghost use Rattle.ffv1_params.specs.Track.{WriterAt, AreUsable};
 
-    ghost Value = { Track };
+    ghost Value = { WriterAt };
 
     ghost view = { λ w. record { interval = w.encoder.interval; states = w.states } };
 

@@ -5,7 +5,7 @@ ghost use Rattle.range_coder.specs.Table.{IsLive, AreLive};
 ghost use Rattle.range_coder.specs.DefaultTable.{default_one_states};
 ghost use Rattle.ffv1_params.specs.QuantTables.{IsTable};
 ghost use Rattle.ffv1_params.specs.Reading as reading;
-ghost use Rattle.ffv1_params.specs.Walk.{Answers, Leads, walk_of};
+ghost use Rattle.ffv1_params.specs.Walk.{Answers, Leads, reader_at};
 
 use crate::ParamsWhy;
 use cook_bits::Bytes;
@@ -23,7 +23,7 @@ pub(crate) fn symbol_of(
 ) -> Result<u32, ParamsWhy>
     requires default { table.now ≡ default_one_states }
     requires live { AreLive table.now states.old }
-    ensures answers { Answers (walk_of decoder.old states.old) (walk_of decoder.new states.new) result reading.symbol }
+    ensures answers { Answers (reader_at decoder.old states.old) (reader_at decoder.new states.new) result reading.symbol }
     ensures few { IfOk result (λ n. n < 2 ^ 31) }
     ensures live { AreLive table.now states.new }
 {
@@ -44,7 +44,7 @@ pub(crate) fn symbol_of(
 pub(crate) fn bit_of(decoder: &mut Decoder<'_>, table: &Table, states: &mut States) -> bool
     requires default { table.now ≡ default_one_states }
     requires live { AreLive table.now states.old }
-    ensures answers { Leads (walk_of decoder.old states.old) (walk_of decoder.new states.new) reading.bit (reading.give result) }
+    ensures answers { Leads (reader_at decoder.old states.old) (reader_at decoder.new states.new) reading.bit (reading.give result) }
     ensures live { AreLive table.now states.new }
 {
     laws::n3();
@@ -64,7 +64,7 @@ pub(crate) fn runs_of(
 ) -> Result<Bytes, ParamsWhy>
     requires default { table.now ≡ default_one_states }
     requires fresh { IsLive table.now 128 }
-    ensures answers { (shared : List ℕ) → Answers (walk_of decoder.old shared) (walk_of decoder.new shared) result reading.table }
+    ensures answers { (shared : List ℕ) → Answers (reader_at decoder.old shared) (reader_at decoder.new shared) result reading.table }
     ensures table { IfOk result IsTable }
 {
     let mut states = States::fresh();

@@ -7,7 +7,7 @@ ghost use Rattle.range_coder.specs.Symbol.{fresh_states};
 ghost use Rattle.ffv1_params.specs.Parameters.{is_depth};
 ghost use Rattle.ffv1_params.specs.QuantTables.{IsTable};
 ghost use Rattle.ffv1_params.specs.Reading as reading;
-ghost use Rattle.ffv1_params.specs.Walk.{Answers, Leads, IsAt, walk_of};
+ghost use Rattle.ffv1_params.specs.Walk.{Answers, Leads, IsAt, reader_at};
 ghost use Rattle.ffv1_params.specs.declared.error.ParamsWhy.TheVariants.{Tables};
 
 use crate::ParamsWhy;
@@ -26,10 +26,10 @@ pub(crate) struct FieldReader<'a> {
 }
 
 impl<'a> Model for FieldReader<'a> {
-    ghost use Rattle.ffv1_params.specs.Walk.{Walk};
+    ghost use Rattle.ffv1_params.specs.Walk.{ReaderAt};
     ghost use Rattle.ffv1_params.specs.Track.{AreUsable};
 
-    ghost Value = { Walk };
+    ghost Value = { ReaderAt };
 
     ghost view = { λ w. record { reader = w.decoder; states = w.states } };
 
@@ -38,8 +38,8 @@ impl<'a> Model for FieldReader<'a> {
 
 impl<'a> FieldReader<'a> {
     pub(crate) fn new(decoder: Decoder<'a>) -> FieldReader<'a>
-        ensures walk { result ≡ walk_of decoder.entry fresh_states }
-        ensures begins { (bytes : List ℕ) → Begins decoder.entry bytes → IsAt (walk_of decoder.entry fresh_states) bytes start_place }
+        ensures walk { result ≡ reader_at decoder.entry fresh_states }
+        ensures begins { (bytes : List ℕ) → Begins decoder.entry bytes → IsAt (reader_at decoder.entry fresh_states) bytes start_place }
     {
         FieldReader {
             decoder,

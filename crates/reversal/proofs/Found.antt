@@ -12,6 +12,7 @@ use Rattle.std.proofs.lemmas.List.Concat.{flat_map-cons}
 use Rattle.std.proofs.lemmas.List.Elements.{All-from_recursion}
 use Rattle.byteorder.specs.Endian.{big_number}
 use Rattle.byteorder.specs.Numbers.{big_from-lt}
+use Rattle.cook_bits.specs.Bits.{AreBytes}
 use Rattle.reversal.specs.declared.record.Kind.{Kind}
 use Rattle.reversal.specs.declared.record.Kind.TheVariants.{Other}
 use Rattle.reversal.specs.declared.record.FileRecord.{FileRecord}
@@ -22,14 +23,11 @@ use Rattle.std.specs.Global.{Vec}
 use Rattle.std.specs.Prelude.{IfOk}
 use Rattle.reversal.proofs.NamesFound.{are_named}
 
-abbrev pub IsBytes : List ℕ → Type 0
-IsBytes bytes = (i : ℕ) → get_or bytes i 0 < 256
+AreBytes-drop : (n : ℕ) (bytes : List ℕ) → AreBytes bytes → AreBytes (drop n bytes)
+AreBytes-drop n bytes h i = rw get_or-drop (h (n + i))
 
-IsBytes-drop : (n : ℕ) (bytes : List ℕ) → IsBytes bytes → IsBytes (drop n bytes)
-IsBytes-drop n bytes h i = rw get_or-drop (h (n + i))
-
-IsBytes-take : (n : ℕ) (bytes : List ℕ) → IsBytes bytes → IsBytes (take n bytes)
-IsBytes-take n bytes h i =
+AreBytes-take : (n : ℕ) (bytes : List ℕ) → AreBytes bytes → AreBytes (take n bytes)
+AreBytes-take n bytes h i =
     elim (cases_lt i n) [
       | inl lt ↦ rw (get_or-take n bytes i 0 lt) (h i)
       | inr le ↦ rw (get_or_past (take n bytes) i 0 (omega (arith, length-take n bytes))) (omega arith)
@@ -58,7 +56,7 @@ ok_is x y e = cc
 -- what a reader took from the front
 record Takes (bytes text rest : List ℕ) : Type 0 where
   parts : bytes ≡ text ++ rest
-  rest_fits : IsBytes rest
+  rest_fits : AreBytes rest
 
 Takes-then : (a x b y c : List ℕ) → Takes a x b → Takes b y c → Takes a (x ++ y) c
 Takes-then a x b y c p q = record { parts = p.parts ∙ ap (λ (t : List ℕ). x ++ t) q.parts ∙ sym (append_assoc x y c); rest_fits = q.rest_fits }
@@ -67,23 +65,23 @@ Takes-then a x b y c p q = record { parts = p.parts ∙ ap (λ (t : List ℕ). x
 
 record Piece (len : ℕ) (bytes : List ℕ) (x : List ℕ × List ℕ) : Type 0 where
   takes : Takes bytes x.0 x.1
-  fits : IsBytes x.0
+  fits : AreBytes x.0
   long : length x.0 ≡ len
 
-piece_takes : (left len : ℕ) (bytes : List ℕ) (x : List ℕ × List ℕ) → IsBytes bytes → piece_at left len bytes ≡ Ok x → Piece len bytes x
+piece_takes : (left len : ℕ) (bytes : List ℕ) (x : List ℕ × List ℕ) → AreBytes bytes → piece_at left len bytes ≡ Ok x → Piece len bytes x
 piece_takes left len bytes x fits e =
     let g = guard_ok (nat_lt (length bytes) len) left (take len bytes, drop len bytes) x e in
     let enough : len ≤ length bytes = ltb-false _ _ g.0 in
     let whole : Piece len bytes (take len bytes, drop len bytes) = record {
-      takes = record { parts = sym (take-append-drop len bytes); rest_fits = IsBytes-drop len bytes fits };
-      fits = IsBytes-take len bytes fits;
+      takes = record { parts = sym (take-append-drop len bytes); rest_fits = AreBytes-drop len bytes fits };
+      fits = AreBytes-take len bytes fits;
       long = omega (arith, length-take len bytes);
     } in
     subst (Piece len bytes) g.1 whole
 
 -- so many bytes are those of the number that they make
 record IsWide (len : ℕ) : Type 0 where
-  back : (bytes : List ℕ) → length bytes ≡ len → IsBytes bytes → bytes_high_first len (big_number len bytes) ≡ bytes
+  back : (bytes : List ℕ) → length bytes ≡ len → AreBytes bytes → bytes_high_first len (big_number len bytes) ≡ bytes
 
 wide2 : IsWide 2
 wide2 = record { back = λ bytes len fits. be_bytes_2 bytes (big_number 2 bytes) len fits (omega arith) }
@@ -94,7 +92,7 @@ wide4 = record { back = λ bytes len fits. be_bytes_4 bytes (big_number 4 bytes)
 wide8 : IsWide 8
 wide8 = record { back = λ bytes len fits. be_bytes_8 bytes (big_number 8 bytes) len fits (omega arith) }
 
-number_takes : (len : ℕ) → IsWide len → (bytes : List ℕ) (x : ℕ × List ℕ) → IsBytes bytes → number_at len bytes ≡ Ok x → Takes bytes (bytes_high_first len x.0) x.1 × (x.0 < 256 ^ len)
+number_takes : (len : ℕ) → IsWide len → (bytes : List ℕ) (x : ℕ × List ℕ) → AreBytes bytes → number_at len bytes ≡ Ok x → Takes bytes (bytes_high_first len x.0) x.1 × (x.0 < 256 ^ len)
 number_takes len wide bytes x fits e =
     let b = bind_ok (piece_at (length bytes) len bytes) (λ piece. Ok (big_number len piece.0, piece.1)) x e in
     let p = piece_takes (length bytes) len bytes b.0 fits b.1 in
@@ -104,14 +102,14 @@ number_takes len wide bytes x fits e =
 
 -- ---- records
 
-kind_takes : (bytes : List ℕ) (x : Kind × List ℕ) → IsBytes bytes → kind_at bytes ≡ Ok x → Takes bytes (0 ∷ []) x.1 × (x.0 ≡ Other)
+kind_takes : (bytes : List ℕ) (x : Kind × List ℕ) → AreBytes bytes → kind_at bytes ≡ Ok x → Takes bytes (0 ∷ []) x.1 × (x.0 ≡ Other)
 kind_takes [] x fits e = absurd cc
 kind_takes (zero ∷ rest) x fits e =
     let made : Kind × List ℕ = (Other, rest) in
     subst (λ (y : Kind × List ℕ). Takes (0 ∷ rest) (0 ∷ []) y.1 × (y.0 ≡ Other)) (ok_is made x e) (record { parts = refl; rest_fits = λ i. fits (suc i) }, refl)
 kind_takes (suc kind ∷ rest) x fits e = absurd cc
 
-name_takes : (bytes : List ℕ) (x : List ℕ × List ℕ) → IsBytes bytes → name_at bytes ≡ Ok x → Takes bytes (bytes_high_first 2 (length x.0) ++ x.0) x.1 × (length x.0 < 2 ^ 16) × IsUtf8 x.0
+name_takes : (bytes : List ℕ) (x : List ℕ × List ℕ) → AreBytes bytes → name_at bytes ≡ Ok x → Takes bytes (bytes_high_first 2 (length x.0) ++ x.0) x.1 × (length x.0 < 2 ^ 16) × IsUtf8 x.0
 unfolding name_at
 name_takes bytes x fits e =
     let a = bind_ok (number_at 2 bytes) (λ len. piece_at (length bytes) len.0 len.1 >>= λ piece. text_at (length bytes) piece.0 >>= λ name. Ok (name, piece.1)) x e in
@@ -126,7 +124,7 @@ name_takes bytes x fits e =
     let same : made ≡ x = ap (λ (t : List ℕ). (t, b.0.1)) g.1 ∙ ok_is (c.0, b.0.1) x c.2 in
     subst (λ (y : List ℕ × List ℕ). Takes bytes (bytes_high_first 2 (length y.0) ++ y.0) y.1 × (length y.0 < 2 ^ 16) × IsUtf8 y.0) same (sized, omega (arith, p.long, size.1), IsUtf8-from_is_utf8 b.0.0 g.0)
 
-record_takes : (bytes : List ℕ) (x : FileRecord × List ℕ) → IsBytes bytes → record_at bytes ≡ Ok x → Takes bytes (record_bytes x.0) x.1 × HasShape x.0 × FitsTypes x.0
+record_takes : (bytes : List ℕ) (x : FileRecord × List ℕ) → AreBytes bytes → record_at bytes ≡ Ok x → Takes bytes (record_bytes x.0) x.1 × HasShape x.0 × FitsTypes x.0
 unfolding record_at
 record_takes bytes x fits e =
     let a = bind_ok (kind_at bytes) (λ kind. name_at kind.1 >>= λ name. number_at 8 name.1 >>= λ len. piece_at (length len.1) 16 len.1 >>= λ sum. Ok (other_record name.0 kind.0 len.0 sum.0, sum.1)) x e in
@@ -151,7 +149,7 @@ record Read (bytes : List ℕ) (count : ℕ) (x : List FileRecord × List ℕ) :
   shaped : AllByRecursion HasShape x.0
   typed : AllByRecursion FitsTypes x.0
 
-records_take : (count : ℕ) (bytes : List ℕ) (x : List FileRecord × List ℕ) → IsBytes bytes → records_at count bytes ≡ Ok x → Read bytes count x
+records_take : (count : ℕ) (bytes : List ℕ) (x : List FileRecord × List ℕ) → AreBytes bytes → records_at count bytes ≡ Ok x → Read bytes count x
 unfolding records_at
 records_take zero bytes x fits e =
     let made : List FileRecord × List ℕ = ([], bytes) in
@@ -169,7 +167,7 @@ records_take (suc count) bytes x fits e =
 
 -- ---- the whole
 
-mark_takes : (bytes rest : List ℕ) → IsBytes bytes → mark_at bytes ≡ Ok rest → Takes bytes mark rest
+mark_takes : (bytes rest : List ℕ) → AreBytes bytes → mark_at bytes ≡ Ok rest → Takes bytes mark rest
 mark_takes bytes rest fits e =
     let a = bind_ok (piece_at (length bytes) 8 bytes) (λ piece. cond (pointwise nat_eq piece.0 mark) (Ok piece.1) (Err (length bytes))) rest e in
     let p = piece_takes (length bytes) 8 bytes a.0 fits a.1 in
@@ -183,7 +181,7 @@ record IsSpelled (bytes : List ℕ) (records : List FileRecord) : Type 0 where
   shaped : All HasShape records
   typed : All FitsTypes records
 
-side_takes : (bytes : List ℕ) (records : List FileRecord) → IsBytes bytes → side_at bytes ≡ Ok records → IsSpelled bytes records
+side_takes : (bytes : List ℕ) (records : List FileRecord) → AreBytes bytes → side_at bytes ≡ Ok records → IsSpelled bytes records
 unfolding side_at side_data_of
 side_takes bytes records fits e =
     let a = bind_ok (mark_at bytes) (λ rest. number_at 4 rest >>= λ count. records_at count.0 count.1 >>= λ read. cond (length read.1 == 0) (Ok read.0) (Err (length read.1))) records e in
@@ -210,7 +208,7 @@ unplaced len (Ok records) items e =
     (ap done u.1, subst (λ (rs : List FileRecord). first_bad_name (names_of rs) ≡ None) u.1 u.0)
 unplaced len (Err left) items e = absurd cc
 
-pub is_found : (bytes : List ℕ) (r : Result (Vec FileRecord) SideError) → IsBytes bytes → GivesSide r (side_read bytes) → IfOk r (λ v. IsSideDataOf v.items bytes)
+pub is_found : (bytes : List ℕ) (r : Result (Vec FileRecord) SideError) → AreBytes bytes → GivesSide r (side_read bytes) → IfOk r (λ v. IsSideDataOf v.items bytes)
 unfolding side_read
 is_found bytes (Ok v) fits given =
     let u = unplaced (length bytes) (side_at bytes) v.items given in

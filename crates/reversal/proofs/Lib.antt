@@ -1,5 +1,4 @@
 pub mod Found
-pub mod Lengths
 pub mod Loop
 pub mod NameFaults
 pub mod NamesFound

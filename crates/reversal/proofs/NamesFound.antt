@@ -16,7 +16,7 @@ use Rattle.reversal.specs.declared.record.Kind.TheVariants.{Other}
 use Rattle.reversal.specs.declared.record.FileRecord.{FileRecord}
 use Rattle.reversal.specs.SideData.{names_of, AreNames}
 use Rattle.reversal.specs.SideReading.{is_above_last, is_good_name, first_bad_name, other_record}
-use Rattle.reversal.proofs.Lengths.{names_long}
+use Rattle.reversal.specs.Lengths.{names_long}
 use Rattle.reversal.proofs.NameFaults.{bad_from, bad_start, bad_step, bad_end, map_append, sorted_none, sorted_more, above_before, both_false}
 
 -- ---- none is refused from any place on

@@ -16,7 +16,7 @@ use Rattle.name_tree.specs.Laws.{IsBelow, RefusesBehind}
 use Rattle.reversal.specs.declared.record.FileRecord.{FileRecord}
 use Rattle.reversal.specs.SideData.{names_of}
 use Rattle.reversal.specs.SideReading.{is_above_last, is_good_name}
-use Rattle.reversal.proofs.Lengths.{names_long}
+use Rattle.reversal.specs.Lengths.{names_long}
 use Rattle.reversal.proofs.NameFaults.{last_decides}
 
 is_less : (o : Ordering) → is_lt o ≡ true → o ≡ Less

@@ -18,7 +18,7 @@ use Rattle.reversal.specs.declared.record.FileRecord.{FileRecord}
 use Rattle.reversal.specs.SideData.{names_of, mark, record_bytes, side_data_of, HasShape, FitsTypes, AreNames, AreRecords}
 use Rattle.reversal.specs.SideReading.{piece_at, number_at, name_at, other_record, record_at, records_at, mark_at, side_at, side_read, is_above_last, is_good_name, first_bad_name}
 use Rattle.reversal.proofs.Texts.{good_text}
-use Rattle.reversal.proofs.Lengths.{names_long}
+use Rattle.reversal.specs.Lengths.{names_long}
 use Rattle.reversal.proofs.NameFaults.{last_decides, bad_from, bad_start, bad_later, bad_end, map_append, both_false}
 
 -- ---- fields

@@ -10,7 +10,7 @@ use Rattle.std.proofs.Math.ListN.{get_or-map}
 use Rattle.std.proofs.lemmas.List.{get_or-take, length-map}
 use Rattle.cook_bits.specs.Names.{File, IsRelativeName, full_name}
 use Rattle.shelf_core.specs.Told.{Told, IsTold, HasFile, IsFree, no_file, under, with_file, with_files}
-use Rattle.shelf_core.proofs.FileLaws.{IsTold-stays, IsApart-different, IsFree-with_file, IsFree-not_there}
+use Rattle.shelf_core.specs.FileLaws.{IsTold-stays, IsApart-different, IsFree-with_file, IsFree-not_there}
 use Rattle.shelf_core.proofs.UnderLaws.{IsFree-empty_relative}
 
 -- ---- one file after another

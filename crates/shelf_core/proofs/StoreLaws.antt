@@ -1,5 +1,5 @@
 -- Laws of files in memory, in the words that a shelf tells.
-use Rattle.std.proofs.Common.{◌≡◌, ℕ, Bool, true, false, cond, List, [], ◌∷◌, ◌++◌, length, take, drop, get_or, set, Option, Some, None, IsSome, is_some, not, refl, sym, ap, subst, ◌∙◌}
+use Rattle.std.proofs.Common.{◌≡◌, ℕ, zero, suc, ◌+◌, ◌<◌, Bool, true, false, cond, List, [], ◌∷◌, ◌++◌, length, take, drop, get_or, set, Option, Some, None, IsSome, is_some, not, refl, sym, ap, subst, ◌∙◌, arith}
 use Rattle.std.specs.Cmp.{IsTotalOrder, tied_itself}
 use Rattle.std.specs.Cmp.Lexicographic.{nat_list_cmp_total}
 use Rattle.std.specs.FinMap.{from_sorted, find, put, entries-from_sorted, entries-insert, same_entries_map}
@@ -8,11 +8,14 @@ use Rattle.std.specs.List.{filter}
 use Rattle.std.specs.Option.{option_map, unwrap_or}
 use Rattle.std.specs.Ordering.{is_eq, eq_by_cmp}
 use Rattle.std.proofs.lemmas.Bool.{and_parts}
+use Rattle.std.proofs.lemmas.List.{take_more}
+use Rattle.std.proofs.lemmas.List.Elements.{All-append, All-drop, All-nil, All-push, All-set, All-take}
+use Rattle.cook_bits.specs.Bits.{AreBytes}
 use Rattle.cook_bits.specs.Names.{File, files_under, is_same_name}
-use Rattle.shelf_core.specs.Told.{HasFile, IsFree, content, length_of, with_file, grown, under, IsPending, IsAtRest, IsRead, with_pending, without_pending, GrewPartly}
-use Rattle.shelf_core.specs.StoreTold.{made, shown, both, found, has-told, told-has, pending-found, pending-has}
-use Rattle.shelf_core.proofs.PieceLaws.{GrewPartly-nothing}
-use Rattle.shelf_core.specs.Store.{byte_order, IsAscending, AreThere, are_there, told_of, bytes_in, put_in, StandsAt, BelongsAt}
+use Rattle.shelf_core.specs.Told.{HasFile, IsFree, content, length_of, with_file, grown, under, IsUnsealedIn, IsNotUnsealed, IsRead, with_unsealed, without_unsealed, GrewPartly}
+use Rattle.shelf_core.specs.StoreTold.{made, shown, both, found, has-told, told-has, unsealed-found, unsealed-has, no-bytes}
+use Rattle.shelf_core.specs.PieceLaws.{GrewPartly-nothing}
+use Rattle.shelf_core.specs.Store.{byte_order, IsAscending, AreOfBytes, AreThere, are_there, told_of, bytes_in, put_in, StandsAt, BelongsAt}
 
 total : IsTotalOrder byte_order
 total = nat_list_cmp_total
@@ -83,10 +86,10 @@ there-filter p (name ∷ names) files there = elim (p name) as (λ (b : Bool). A
 ]
 
 -- so a name that no file has isn't one of them
-pub at_rest : (names : List (List ℕ)) (files : List File) (name : List ℕ) → AreThere names files → bytes_in files name ≡ None → IsAtRest (Some names) name
-unfolding IsAtRest IsPending
-at_rest names files name there none contains =
-    let some : IsSome (bytes_in files name) = pending-found names files name there contains in
+pub not_unsealed : (names : List (List ℕ)) (files : List File) (name : List ℕ) → AreThere names files → bytes_in files name ≡ None → IsNotUnsealed (Some names) name
+unfolding IsNotUnsealed IsUnsealedIn
+not_unsealed names files name there none contains =
+    let some : IsSome (bytes_in files name) = unsealed-found names files name there contains in
     cc
 
 -- a file was added at its place
@@ -136,19 +139,48 @@ read-missed files slice name buffer at room count same sorted is has =
     absurd (let clash : ⊥ = cc in clash)
 
 -- the names that are being written, with one more, and with one left out
-pub pended : (names after : List (List ℕ)) (name : List ℕ) → after ≡ names ++ name ∷ [] → Some after ≡ with_pending (Some names) name
-unfolding with_pending
-pended names after name is = ap Some is
+pub unsealed_more : (names after : List (List ℕ)) (name : List ℕ) → after ≡ names ++ name ∷ [] → Some after ≡ with_unsealed (Some names) name
+unfolding with_unsealed
+unsealed_more names after name is = ap Some is
 
-pub unpended : (names after : List (List ℕ)) (name : List ℕ) → after ≡ filter (λ other. not (is_same_name name other)) names → Some after ≡ without_pending (Some names) name
-unfolding without_pending
-unpended names after name is = ap Some is
+pub unsealed_fewer : (names after : List (List ℕ)) (name : List ℕ) → after ≡ filter (λ other. not (is_same_name name other)) names → Some after ≡ without_unsealed (Some names) name
+unfolding without_unsealed
+unsealed_fewer names after name is = ap Some is
 
 -- where nothing was added, none of the bytes were
 pub grew_none : (files : List File) (name bytes : List ℕ) → HasFile (told_of files) name → GrewPartly (told_of files) name bytes (told_of files)
 grew_none files name bytes has = GrewPartly-nothing (told_of files) (told_of files) name bytes has refl
 
--- what the methods of a store need
-pub ruleset store_facts = (pending-has, at_rest, there-none, there-filter, under-told, length-told, free-told, pended, unpended, grew_none)
+-- ---- contents are bytes
 
-pub ruleset store_laws = (ascending-added, told-added, there-after, ascending-grown, there-grown, told-grown)
+OfBytes : File → Type 0
+OfBytes file = AreBytes file.1
+
+bytes-append : (front rest : List ℕ) → AreBytes front → AreBytes rest → AreBytes (front ++ rest)
+bytes-append [] rest here behind i = behind i
+bytes-append (byte ∷ front) rest here behind zero = here 0
+bytes-append (byte ∷ front) rest here behind (suc i) = bytes-append front rest (λ k. here (suc k)) behind i
+
+-- an empty file was added
+pub bytes-added : (files after : List File) (name : List ℕ) (place : ℕ) → AreOfBytes files → after ≡ take place files ++ (name, []) ∷ drop place files → AreOfBytes after
+unfolding OfBytes
+bytes-added files after name place are is =
+    subst AreOfBytes (sym is) (All-append OfBytes (take place files) ((name, []) ∷ drop place files) (All-take OfBytes place files are)
+    (All-append OfBytes ((name, []) ∷ []) (drop place files) (All-push OfBytes [] (name, []) (All-nil OfBytes) no-bytes) (All-drop OfBytes place files are)))
+
+-- bytes were added at the end of the file at a place
+pub bytes-grown : (files after : List File) (name held bytes : List ℕ) (place : ℕ) → AreOfBytes files → AreBytes bytes → place < length files → ((file : File) → (get_or files place file).1 ≡ held) → after ≡ set files place (name, held ++ bytes) → AreOfBytes after
+unfolding OfBytes
+bytes-grown files after name held bytes place are more within holds is =
+    subst AreOfBytes (sym is) (All-set OfBytes files place (name, held ++ bytes) (bytes-append held bytes (subst AreBytes (holds ([], [])) (are place ([], []) within)) more) are)
+
+-- one file more was looked at
+pub bytes-next : (files : List File) (k : ℕ) (file : File) (bytes : List ℕ) → k < length files → file ≡ get_or files k file → bytes ≡ file.1 → AreBytes bytes → AreOfBytes (take k files) → AreOfBytes (take (k + 1) files)
+unfolding OfBytes
+bytes-next files k file bytes inside at of are so_far =
+    subst AreOfBytes (sym (take_more files k file inside ∙ ap (λ (f : File). take k files ++ f ∷ []) (sym at))) (All-push OfBytes (take k files) file so_far (subst AreBytes of are))
+
+-- what the methods of a store need
+pub ruleset store_facts = (unsealed-has, not_unsealed, there-none, there-filter, under-told, length-told, free-told, unsealed_more, unsealed_fewer, grew_none)
+
+pub ruleset store_laws = (ascending-added, told-added, there-after, ascending-grown, there-grown, told-grown, bytes-added, bytes-grown)

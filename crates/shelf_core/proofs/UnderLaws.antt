@@ -11,8 +11,10 @@ use Rattle.std.specs.List.{cons_option}
 use Rattle.std.proofs.lemmas.List.{get_or-map, length-map}
 use Rattle.std.specs.Option.{unwrap_or}
 use Rattle.std.proofs.lemmas.Bool.Decides.{nat_tests}
+use Rattle.cook_bits.specs.Bits.{AreBytes}
 use Rattle.cook_bits.specs.Names.{File, IsRelativeName, is_relative_name, segments_of, full_name, rest_behind, non_empty, relative_to, renamed, files_under}
 use Rattle.shelf_core.specs.Store.{byte_order}
+use Rattle.shelf_core.specs.Laws.{ContentsUnderAreBytes}
 use Rattle.shelf_core.specs.Listing.{plain_entry, plain_entries}
 use Rattle.shelf_core.specs.declared.shelf.Entry.{Entry}
 use Rattle.shelf_core.specs.Told.{Told, IsFree, no_file, under, length_of, content}
@@ -182,6 +184,16 @@ pub content-under : (told : Told) (root : List ℕ) (i : ℕ) → i < length (un
 unfolding under content
 content-under None root i inside = absurd (omega arith)
 content-under (Some files) root i inside = ap (λ o. unwrap_or o []) (get-entries files _ ∙ found_at root (entries files) i (entries_sorted files) inside)
+
+at-any : (files : List File) (i : ℕ) (d e : File) → i < length files → get_or files i d ≡ get_or files i e
+at-any [] i d e inside = absurd (omega arith)
+at-any (file ∷ files) zero d e inside = refl
+at-any (file ∷ files) (suc i) d e inside = at-any files i d e (omega arith)
+
+-- the contents under a root are contents of the shelf
+pub contents_under-bytes : ContentsUnderAreBytes
+contents_under-bytes told root holds i d inside =
+    subst AreBytes (content-under told root i inside ∙ ap (λ (file : File). file.1) (at-any (under told root) i no_file d inside)) (holds (full_name root (get_or (under told root) i no_file).0))
 
 -- ---- a root with no files
 

@@ -1,11 +1,17 @@
 -- What a shelf and a sink tell, and what their calls promise.
 pub mod Calls
 pub mod Causes
+pub mod FileLaws
+pub mod InMemory
+pub mod Laws
 pub mod Leaves
+pub mod LeftLaws
 pub mod Listing
+pub mod PieceLaws
 pub mod Pieces
 pub mod Reads
 pub mod Report
+pub mod ReportLaws
 pub mod Store
 pub mod StoreOf
 pub mod StoreTold

@@ -2,7 +2,7 @@
 -- which answers its counts rose.
 use Rattle.std.specs.Prelude.{◌≡◌, ◌≤◌, ℕ, List, Result, Err}
 use Rattle.shelf_core.specs.Causes.{Rose}
-use Rattle.shelf_core.specs.Told.{IsTold, HasFile, IsFree, IsApart, IsPending, content}
+use Rattle.shelf_core.specs.Told.{IsTold, HasFile, IsFree, IsApart, IsUnsealedIn, content}
 use Rattle.shelf_core.specs.declared.shelf.Shelf.{Ghosts}
 
 -- ---- a shelf
@@ -21,7 +21,7 @@ HasNo g shelf name = IsFree (g.files shelf) name
 
 -- the file of the name was created and not sealed since
 abbrev pub IsUnsealed : {S : Type 0} → Ghosts S → S → List ℕ → Type 0
-IsUnsealed g shelf name = IsPending (g.unsealed shelf) name
+IsUnsealed g shelf name = IsUnsealedIn (g.unsealed shelf) name
 
 -- two names differ, where it tells its files
 abbrev pub Differ : {S : Type 0} → Ghosts S → S → List ℕ → List ℕ → Type 0

@@ -1,10 +1,11 @@
 -- Files in memory: they stand in a list, and their names rise byte by byte.
-use Rattle.std.specs.Prelude.{◌≡◌, ℕ, ◌<◌, ◌≤◌, Bool, IsTrue, List, ◌∷◌, ◌++◌, length, take, drop, Option, Some, None, is_some, slice_index_or, slice_set}
+use Rattle.std.specs.Prelude.{◌≡◌, ℕ, ◌<◌, ◌≤◌, Bool, IsTrue, List, ◌∷◌, ◌++◌, length, take, drop, All, Option, Some, None, is_some, slice_index_or, slice_set}
 use Rattle.std.specs.declared.cmp.Ordering.{Ordering}
 use Rattle.std.specs.List.{list_all}
 use Rattle.std.specs.Ordering.{nat_cmp}
 use Rattle.std.specs.Cmp.Lexicographic.{slice_cmp}
 use Rattle.std.specs.FinMap.{from_sorted, find, put, is_sorted}
+use Rattle.cook_bits.specs.Bits.{AreBytes}
 use Rattle.cook_bits.specs.Names.{File}
 use Rattle.shelf_core.specs.Told.{Told}
 
@@ -15,6 +16,10 @@ byte_order = slice_cmp nat_cmp
 -- the names of the files rise, so no name comes twice
 abbrev pub IsAscending : List File → Type 0
 IsAscending files = IsTrue (is_sorted byte_order files)
+
+-- the contents of the files are bytes
+abbrev pub AreOfBytes : List File → Type 0
+AreOfBytes files = All (λ file. AreBytes file.1) files
 
 -- what a shelf tells that holds these files, whose names rise
 unfoldable pub told_of : List File → Told

@@ -1,11 +1,12 @@
 -- What a shelf tells of its files: all of them, or nothing. Each word here holds by itself where nothing is told, or is
 -- the same nothing, so that one clause serves every shelf. The words are opaque, and the crates above mostly use their
--- laws (`proofs/FileLaws.antt`).
+-- laws (`FileLaws.antt`).
 use Rattle.std.specs.Prelude.{◌≡◌, ◌≢◌, ℕ, ◌-◌, ◌≤◌, min, not, List, [], ◌∷◌, ◌++◌, length, take, drop, filter, Contains, Option, Some, None, IsSome, unwrap_or}
 use Rattle.std.specs.Option.{option_map}
 use Rattle.std.specs.Ordering.{nat_cmp}
 use Rattle.std.specs.Cmp.Lexicographic.{slice_cmp}
 use Rattle.std.specs.FinMap.{FinMap, entries, get, insert}
+use Rattle.cook_bits.specs.Bits.{AreBytes}
 use Rattle.cook_bits.specs.Names.{File, files_under, full_name, is_same_name}
 
 -- what is read of a list of files past its end
@@ -45,6 +46,10 @@ unfoldable pub content : Told → List ℕ → List ℕ
 content None name = []
 content (Some files) name = unwrap_or (get files name) []
 
+-- the contents of the files are bytes
+abbrev pub HoldsBytes : Told → Type 0
+HoldsBytes told = (name : List ℕ) → AreBytes (content told name)
+
 -- the length of a file, where there is one
 unfoldable pub length_of : Told → List ℕ → Option ℕ
 length_of None name = None
@@ -81,23 +86,23 @@ pub record IsRead (bytes : List ℕ) (at room : ℕ) (buffer : List ℕ) (count 
   pub gives : take count buffer ≡ take count (drop at bytes)
 
 -- the names of the files that were created and not sealed since, in order of creation
-abbrev pub Pending : Type 0
-Pending = Option (List (List ℕ))
+abbrev pub Unsealed : Type 0
+Unsealed = Option (List (List ℕ))
 
 -- the file was created and not sealed since
-unfoldable pub IsPending : Pending → List ℕ → Type 0
-IsPending None name = Unit {0}
-IsPending (Some names) name = Contains names name
+unfoldable pub IsUnsealedIn : Unsealed → List ℕ → Type 0
+IsUnsealedIn None name = Unit {0}
+IsUnsealedIn (Some names) name = Contains names name
 
 -- a file of that name isn't being written
-unfoldable pub IsAtRest : Pending → List ℕ → Type 0
-IsAtRest None name = Unit {0}
-IsAtRest (Some names) name = Contains names name → ⊥
+unfoldable pub IsNotUnsealed : Unsealed → List ℕ → Type 0
+IsNotUnsealed None name = Unit {0}
+IsNotUnsealed (Some names) name = Contains names name → ⊥
 
-unfoldable pub with_pending : Pending → List ℕ → Pending
-with_pending None name = None
-with_pending (Some names) name = Some (names ++ name ∷ [])
+unfoldable pub with_unsealed : Unsealed → List ℕ → Unsealed
+with_unsealed None name = None
+with_unsealed (Some names) name = Some (names ++ name ∷ [])
 
-unfoldable pub without_pending : Pending → List ℕ → Pending
-without_pending None name = None
-without_pending (Some names) name = Some (filter (λ other. not (is_same_name name other)) names)
+unfoldable pub without_unsealed : Unsealed → List ℕ → Unsealed
+without_unsealed None name = None
+without_unsealed (Some names) name = Some (filter (λ other. not (is_same_name name other)) names)

@@ -1,15 +1,15 @@
 -- A shelf as it was and as it is: what a call that writes one file leaves of it. Of the other files it tells the same.
 use Rattle.std.specs.Prelude.{◌≡◌, ◌≤◌, List, [], ℕ}
 use Rattle.shelf_core.specs.Leaves.{LeavesNothing, LeavesPart, Leaves}
-use Rattle.shelf_core.specs.Told.{IsFree, IsAtRest, GrewPartly, grown, with_file, with_pending}
+use Rattle.shelf_core.specs.Told.{IsFree, IsNotUnsealed, GrewPartly, grown, with_file, with_unsealed}
 use Rattle.shelf_core.specs.declared.shelf.Shelf.{Ghosts}
 
 -- A new file was created, is empty, and may be appended to. No count fell.
 pub record Created {S : Type 0} (g : Ghosts S) (old new : S) (name : List ℕ) : Type 0 where
   pub free : IsFree (g.files old) name
-  pub at_rest : IsAtRest (g.unsealed old) name
+  pub not_unsealed : IsNotUnsealed (g.unsealed old) name
   pub files : g.files new ≡ with_file (g.files old) name []
-  pub unsealed : g.unsealed new ≡ with_pending (g.unsealed old) name
+  pub unsealed : g.unsealed new ≡ with_unsealed (g.unsealed old) name
   pub faults : g.faults old ≤ g.faults new
   pub starved : g.starved old ≤ g.starved new
 

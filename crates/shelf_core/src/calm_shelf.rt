@@ -46,10 +46,10 @@ impl CalmShelf {
 impl Shelf for CalmShelf {
     ghost use Rattle.std.specs.Prelude.{ℕ, List, Option};
     ghost use Rattle.shelf_core.specs.Causes.{HasCause};
-    ghost use Rattle.shelf_core.specs.Listing.{plain_entries};
-    ghost use Rattle.shelf_core.specs.Told.{Files, IsTold, HasFile, IsFree, content, length_of, with_file, grown, under, GrewPartly, IsRead, IsPending, IsAtRest, with_pending, without_pending};
+    ghost use Rattle.shelf_core.specs.InMemory.{Lists, ReadsFrom};
+    ghost use Rattle.shelf_core.specs.Told.{Files, IsTold, HasFile, IsFree, length_of, with_file, grown, GrewPartly, IsUnsealedIn, IsNotUnsealed, with_unsealed, without_unsealed};
     ghost use Rattle.shelf_core.specs.StoreOf.{told_files, told_unsealed};
-    ghost use Rattle.shelf_core.specs.StoreTold.{pending-has, told-is_some};
+    ghost use Rattle.shelf_core.specs.StoreTold.{unsealed-has, told-bytes, told-is_some};
 
     ghost files = { λ shelf. told_files shelf.store };
 
@@ -60,7 +60,7 @@ impl Shelf for CalmShelf {
     ghost starved = { λ shelf. shelf.store.starved };
 
     fn list(&mut self, root: &str) -> Result<Vec<Entry>, ShelfError>
-        ensures listed { IfOk result (λ entries. IsTold (told_files self.old.store) → entries.items ≡ plain_entries (under (told_files self.old.store) root.now)) }
+        ensures listed { IfOk result (λ entries. Lists self.old.store root.now entries.items) }
         ensures files { told_files self.new.store ≡ told_files self.old.store }
         ensures unsealed { told_unsealed self.new.store ≡ told_unsealed self.old.store }
         ensures cause { HasCause ShelfError.Failed ShelfError.NoMemory 0 0 self.old.store.starved self.new.store.starved result }
@@ -82,7 +82,7 @@ impl Shelf for CalmShelf {
     fn read_at(&mut self, name: &str, at: u64, buf: &mut [u8]) -> Result<usize, ShelfError>
         requires { HasFile (told_files self.old.store) name.now }
         ensures within { IfOk result (λ count. count ≤ length buf.old) }
-        ensures read { IfOk result (λ count. IsTold (told_files self.old.store) → IsRead (content (told_files self.old.store) name.now) at (length buf.old) buf.new count) }
+        ensures read { IfOk result (ReadsFrom self.old.store name.now at (length buf.old) buf.new) }
         ensures files { told_files self.new.store ≡ told_files self.old.store }
         ensures unsealed { told_unsealed self.new.store ≡ told_unsealed self.old.store }
         ensures cause { HasCause ShelfError.Failed ShelfError.NoMemory 0 0 self.old.store.starved self.new.store.starved result }
@@ -93,9 +93,9 @@ impl Shelf for CalmShelf {
 
     fn create(&mut self, name: &str) -> Result<(), CreateError>
         ensures free { OnOk result (IsFree (told_files self.old.store) name.now) }
-        ensures at_rest { OnOk result (IsAtRest (told_unsealed self.old.store) name.now) }
+        ensures not_unsealed { OnOk result (IsNotUnsealed (told_unsealed self.old.store) name.now) }
         ensures created { OnOk result (told_files self.new.store ≡ with_file (told_files self.old.store) name.now []) }
-        ensures pending { OnOk result (told_unsealed self.new.store ≡ with_pending (told_unsealed self.old.store) name.now) }
+        ensures unsealed { OnOk result (told_unsealed self.new.store ≡ with_unsealed (told_unsealed self.old.store) name.now) }
         ensures exists { result ≡ Err CreateError.Exists → HasFile (told_files self.old.store) name.now }
         ensures in_the_way { HasFile (told_files self.old.store) name.now → result ≡ Err CreateError.Exists }
         ensures files_kept { OnErr result (told_files self.new.store ≡ told_files self.old.store) }
@@ -118,7 +118,7 @@ impl Shelf for CalmShelf {
     }
 
     fn append(&mut self, name: &str, bytes: &[u8]) -> Result<(), ShelfError>
-        requires { IsPending (told_unsealed self.old.store) name.now }
+        requires { IsUnsealedIn (told_unsealed self.old.store) name.now }
         ensures ok { OnOk result (told_files self.new.store ≡ grown (told_files self.old.store) name.now bytes.now) }
         ensures err { OnErr result (GrewPartly (told_files self.old.store) name.now bytes.now (told_files self.new.store)) }
         ensures unsealed { told_unsealed self.new.store ≡ told_unsealed self.old.store }
@@ -129,9 +129,9 @@ impl Shelf for CalmShelf {
     }
 
     fn seal(&mut self, name: &str) -> Result<(), ShelfError>
-        requires { IsPending (told_unsealed self.old.store) name.now }
+        requires { IsUnsealedIn (told_unsealed self.old.store) name.now }
         ensures files { told_files self.new.store ≡ told_files self.old.store }
-        ensures sealed { OnOk result (told_unsealed self.new.store ≡ without_pending (told_unsealed self.old.store) name.now) }
+        ensures sealed { OnOk result (told_unsealed self.new.store ≡ without_unsealed (told_unsealed self.old.store) name.now) }
         ensures unsealed_kept { OnErr result (told_unsealed self.new.store ≡ told_unsealed self.old.store) }
         ensures cause { HasCause ShelfError.Failed ShelfError.NoMemory 0 0 self.old.store.starved self.new.store.starved result }
         ensures calm { result ≡ Err ShelfError.Failed → ⊥ }
@@ -142,5 +142,7 @@ impl Shelf for CalmShelf {
 
     ghost told_together = { λ shelf. told-is_some shelf.store.files.items };
 
-    ghost pending_is_there = { λ shelf name told pending. pending-has _ _ _ shelf.store.ascending shelf.store.there pending };
+    ghost contents_are_bytes = { λ shelf. told-bytes _ shelf.store.ascending shelf.store.bytes };
+
+    ghost unsealed_is_there = { λ shelf name told unsealed. unsealed-has _ _ _ shelf.store.ascending shelf.store.there unsealed };
 }

@@ -1,9 +1,10 @@
 ghost use Rattle.std.specs.Prelude.{◌≡◌, ◌↔◌, ℕ, List, [], ◌∷◌, ◌++◌, None, OnOk, OnErr, IfOk, IfErr, filter, not};
 ghost use Rattle.std.specs.Option.{option_copied};
+ghost use Rattle.cook_bits.specs.Bits.{AreBytes};
 ghost use Rattle.cook_bits.specs.Names.{rest_behind, relative_to, non_empty, files_under, is_same_name};
 ghost use Rattle.shelf_core.specs.Listing.{plain_entries};
-ghost use Rattle.shelf_core.specs.Told.{HasFile, IsFree, IsAtRest, with_file, grown, with_pending};
-ghost use Rattle.shelf_core.specs.Store.{IsAscending, AreThere, StandsAt, BelongsAt, bytes_in, told_of};
+ghost use Rattle.shelf_core.specs.Told.{HasFile, IsFree, IsNotUnsealed, with_file, grown, with_unsealed};
+ghost use Rattle.shelf_core.specs.Store.{IsAscending, AreOfBytes, AreThere, StandsAt, BelongsAt, bytes_in, told_of};
 
 use crate::{CreateError, Entry};
 use cook_bits::{Bytes, Name, NoMemory};
@@ -85,11 +86,13 @@ pub fn add_file(
 ) -> Result<(), CreateError>
     requires ascending { IsAscending files.old.items }
     requires there { AreThere unsealed.old.items files.old.items }
+    requires bytes { AreOfBytes files.old.items }
     ensures ascending { IsAscending files.new.items }
     ensures there { AreThere unsealed.new.items files.new.items }
+    ensures bytes { AreOfBytes files.new.items }
     ensures free { OnOk result (bytes_in files.old.items name.now ≡ None) }
     ensures created { OnOk result (told_of files.new.items ≡ with_file (told_of files.old.items) name.now []) }
-    ensures pending { OnOk result (unsealed.new.items ≡ unsealed.old.items ++ name.now ∷ []) }
+    ensures unsealed { OnOk result (unsealed.new.items ≡ unsealed.old.items ++ name.now ∷ []) }
     ensures exists { result ≡ Err CreateError.Exists → HasFile (told_of files.old.items) name.now }
     ensures in_the_way { HasFile (told_of files.old.items) name.now → result ≡ Err CreateError.Exists }
     ensures never { result ≡ Err CreateError.Failed → ⊥ }
@@ -101,8 +104,8 @@ pub fn add_file(
         Err(place) => place,
     };
     let file = (Name::copy(alloc, name)?, Bytes::new(alloc));
-    let pending = Name::copy(alloc, name)?;
-    unsealed.push(pending).map_err(|_| CreateError::NoMemory)?;
+    let added = Name::copy(alloc, name)?;
+    unsealed.push(added).map_err(|_| CreateError::NoMemory)?;
     if files.insert(place, file).is_err() {
         let _ = unsealed.pop();
         return Err(CreateError::NoMemory);
@@ -115,8 +118,10 @@ pub fn add_file(
 pub fn append_to(files: &mut Vec<(Name, Bytes)>, name: &str, bytes: &[u8]) -> Result<(), NoMemory>
     requires ascending { IsAscending files.old.items }
     requires there { HasFile (told_of files.old.items) name.now }
+    requires bytes { AreOfBytes files.old.items }
     ensures ascending { IsAscending files.new.items }
     ensures there { (names : List (List ℕ)) → AreThere names files.old.items → AreThere names files.new.items }
+    ensures bytes { AreOfBytes files.new.items }
     ensures ok { OnOk result (told_of files.new.items ≡ grown (told_of files.old.items) name.now bytes.now) }
     ensures err { OnErr result (files.new.items ≡ files.old.items) }
 {
@@ -131,4 +136,20 @@ pub fn drop_name(names: &mut Vec<Name>, name: &str)
     ensures { names.new.items ≡ filter (λ other. not (is_same_name name.now other)) names.old.items }
 {
     names.retain(|other| name != other.as_str());
+}
+
+// The numbers of a slice of bytes are bytes: what its type says.
+fn are_bytes(bytes: &[u8])
+    ensures { AreBytes bytes.now }
+{
+    let _ = bytes;
+}
+
+/// The contents of files are bytes: what the type of each says. It computes nothing.
+pub fn hold_bytes(files: &[(Name, Bytes)])
+    ensures { AreOfBytes files.now }
+{
+    for file in files {
+        are_bytes(file.1.as_slice());
+    }
 }

@@ -4,6 +4,7 @@
 mod calls;
 mod calm_shelf;
 mod files;
+pub mod laws;
 mod mem_shelf;
 mod mem_sink;
 mod pieces;

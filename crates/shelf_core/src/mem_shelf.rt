@@ -1,4 +1,4 @@
-ghost use Rattle.std.specs.Prelude.{◌≡◌, ◌↔◌, ◌/◌, ◌≤◌, [], length, take, None, Some, IfOk, OnOk, OnErr};
+ghost use Rattle.std.specs.Prelude.{◌≡◌, ◌↔◌, ◌≤◌, [], length, None, Some, IfOk, OnOk, OnErr};
 ghost use Rattle.shelf_core.specs.Store.{IsAscending, told_of};
 
 use crate::calls::Calls;
@@ -51,11 +51,10 @@ impl MemShelf {
 impl Shelf for MemShelf {
     ghost use Rattle.std.specs.Prelude.{ℕ, List, Option};
     ghost use Rattle.shelf_core.specs.Calls.{IsListed, Counted};
-    ghost use Rattle.shelf_core.specs.Causes.{HasCause, Rose};
-    ghost use Rattle.shelf_core.specs.Listing.{plain_entries};
-    ghost use Rattle.shelf_core.specs.Told.{Files, IsTold, HasFile, IsFree, content, length_of, with_file, grown, under, GrewPartly, IsRead, IsPending, IsAtRest, with_pending, without_pending};
+    ghost use Rattle.shelf_core.specs.InMemory.{Caused, GrewByHalf, Lists, ReadsFrom};
+    ghost use Rattle.shelf_core.specs.Told.{Files, IsTold, HasFile, IsFree, length_of, with_file, grown, GrewPartly, IsUnsealedIn, IsNotUnsealed, with_unsealed, without_unsealed};
     ghost use Rattle.shelf_core.specs.StoreOf.{told_files, told_unsealed};
-    ghost use Rattle.shelf_core.specs.StoreTold.{pending-has, told-is_some};
+    ghost use Rattle.shelf_core.specs.StoreTold.{unsealed-has, told-bytes, told-is_some};
 
     ghost files = { λ shelf. told_files shelf.store };
 
@@ -66,10 +65,10 @@ impl Shelf for MemShelf {
     ghost starved = { λ shelf. shelf.store.starved };
 
     fn list(&mut self, root: &str) -> Result<Vec<Entry>, ShelfError>
-        ensures listed { IfOk result (λ entries. IsTold (told_files self.old.store) → entries.items ≡ plain_entries (under (told_files self.old.store) root.now)) }
+        ensures listed { IfOk result (λ entries. Lists self.old.store root.now entries.items) }
         ensures files { told_files self.new.store ≡ told_files self.old.store }
         ensures unsealed { told_unsealed self.new.store ≡ told_unsealed self.old.store }
-        ensures cause { HasCause ShelfError.Failed ShelfError.NoMemory self.old.calls.faults self.new.calls.faults self.old.store.starved self.new.store.starved result }
+        ensures cause { Caused ShelfError.Failed ShelfError.NoMemory self.old self.new result }
         ensures failed { (result ≡ Err ShelfError.Failed) ↔ IsListed self.old.calls }
         ensures counted { Counted self.old.calls self.new.calls }
     {
@@ -83,7 +82,7 @@ impl Shelf for MemShelf {
         ensures length { IfOk result (λ len. IsTold (told_files self.old.store) → len ≡ length_of (told_files self.old.store) name.now) }
         ensures files { told_files self.new.store ≡ told_files self.old.store }
         ensures unsealed { told_unsealed self.new.store ≡ told_unsealed self.old.store }
-        ensures cause { HasCause ShelfError.Failed ShelfError.NoMemory self.old.calls.faults self.new.calls.faults self.old.store.starved self.new.store.starved result }
+        ensures cause { Caused ShelfError.Failed ShelfError.NoMemory self.old self.new result }
         ensures failed { (result ≡ Err ShelfError.Failed) ↔ IsListed self.old.calls }
         ensures counted { Counted self.old.calls self.new.calls }
     {
@@ -96,10 +95,10 @@ impl Shelf for MemShelf {
     fn read_at(&mut self, name: &str, at: u64, buf: &mut [u8]) -> Result<usize, ShelfError>
         requires { HasFile (told_files self.old.store) name.now }
         ensures within { IfOk result (λ count. count ≤ length buf.old) }
-        ensures read { IfOk result (λ count. IsTold (told_files self.old.store) → IsRead (content (told_files self.old.store) name.now) at (length buf.old) buf.new count) }
+        ensures read { IfOk result (ReadsFrom self.old.store name.now at (length buf.old) buf.new) }
         ensures files { told_files self.new.store ≡ told_files self.old.store }
         ensures unsealed { told_unsealed self.new.store ≡ told_unsealed self.old.store }
-        ensures cause { HasCause ShelfError.Failed ShelfError.NoMemory self.old.calls.faults self.new.calls.faults self.old.store.starved self.new.store.starved result }
+        ensures cause { Caused ShelfError.Failed ShelfError.NoMemory self.old self.new result }
         ensures failed { (result ≡ Err ShelfError.Failed) ↔ IsListed self.old.calls }
         ensures counted { Counted self.old.calls self.new.calls }
     {
@@ -111,14 +110,14 @@ impl Shelf for MemShelf {
 
     fn create(&mut self, name: &str) -> Result<(), CreateError>
         ensures free { OnOk result (IsFree (told_files self.old.store) name.now) }
-        ensures at_rest { OnOk result (IsAtRest (told_unsealed self.old.store) name.now) }
+        ensures not_unsealed { OnOk result (IsNotUnsealed (told_unsealed self.old.store) name.now) }
         ensures created { OnOk result (told_files self.new.store ≡ with_file (told_files self.old.store) name.now []) }
-        ensures pending { OnOk result (told_unsealed self.new.store ≡ with_pending (told_unsealed self.old.store) name.now) }
+        ensures unsealed { OnOk result (told_unsealed self.new.store ≡ with_unsealed (told_unsealed self.old.store) name.now) }
         ensures exists { result ≡ Err CreateError.Exists → HasFile (told_files self.old.store) name.now }
         ensures in_the_way { HasFile (told_files self.old.store) name.now → (IsListed self.old.calls → ⊥) → result ≡ Err CreateError.Exists }
         ensures files_kept { OnErr result (told_files self.new.store ≡ told_files self.old.store) }
         ensures unsealed_kept { OnErr result (told_unsealed self.new.store ≡ told_unsealed self.old.store) }
-        ensures cause { HasCause CreateError.Failed CreateError.NoMemory self.old.calls.faults self.new.calls.faults self.old.store.starved self.new.store.starved result }
+        ensures cause { Caused CreateError.Failed CreateError.NoMemory self.old self.new result }
         ensures failed { (result ≡ Err CreateError.Failed) ↔ IsListed self.old.calls }
         ensures counted { Counted self.old.calls self.new.calls }
     {
@@ -132,7 +131,7 @@ impl Shelf for MemShelf {
     fn make_folder(&mut self, name: &str) -> Result<(), ShelfError>
         ensures files { told_files self.new.store ≡ told_files self.old.store }
         ensures unsealed { told_unsealed self.new.store ≡ told_unsealed self.old.store }
-        ensures cause { HasCause ShelfError.Failed ShelfError.NoMemory self.old.calls.faults self.new.calls.faults self.old.store.starved self.new.store.starved result }
+        ensures cause { Caused ShelfError.Failed ShelfError.NoMemory self.old self.new result }
         ensures failed { (result ≡ Err ShelfError.Failed) ↔ IsListed self.old.calls }
         ensures counted { Counted self.old.calls self.new.calls }
     {
@@ -145,12 +144,12 @@ impl Shelf for MemShelf {
 
     /// A listed call adds the first half of the bytes, rounded down, where no growth is refused.
     fn append(&mut self, name: &str, bytes: &[u8]) -> Result<(), ShelfError>
-        requires { IsPending (told_unsealed self.old.store) name.now }
+        requires { IsUnsealedIn (told_unsealed self.old.store) name.now }
         ensures ok { OnOk result (told_files self.new.store ≡ grown (told_files self.old.store) name.now bytes.now) }
         ensures err { OnErr result (GrewPartly (told_files self.old.store) name.now bytes.now (told_files self.new.store)) }
-        ensures half { result ≡ Err ShelfError.Failed → (Rose self.old.store.starved self.new.store.starved → ⊥) → told_files self.new.store ≡ grown (told_files self.old.store) name.now (take (length bytes.now / 2) bytes.now) }
+        ensures half { result ≡ Err ShelfError.Failed → GrewByHalf self.old.store self.new.store name.now bytes.now }
         ensures unsealed { told_unsealed self.new.store ≡ told_unsealed self.old.store }
-        ensures cause { HasCause ShelfError.Failed ShelfError.NoMemory self.old.calls.faults self.new.calls.faults self.old.store.starved self.new.store.starved result }
+        ensures cause { Caused ShelfError.Failed ShelfError.NoMemory self.old self.new result }
         ensures failed { (result ≡ Err ShelfError.Failed) ↔ IsListed self.old.calls }
         ensures counted { Counted self.old.calls self.new.calls }
     {
@@ -162,11 +161,11 @@ impl Shelf for MemShelf {
     }
 
     fn seal(&mut self, name: &str) -> Result<(), ShelfError>
-        requires { IsPending (told_unsealed self.old.store) name.now }
+        requires { IsUnsealedIn (told_unsealed self.old.store) name.now }
         ensures files { told_files self.new.store ≡ told_files self.old.store }
-        ensures sealed { OnOk result (told_unsealed self.new.store ≡ without_pending (told_unsealed self.old.store) name.now) }
+        ensures sealed { OnOk result (told_unsealed self.new.store ≡ without_unsealed (told_unsealed self.old.store) name.now) }
         ensures unsealed_kept { OnErr result (told_unsealed self.new.store ≡ told_unsealed self.old.store) }
-        ensures cause { HasCause ShelfError.Failed ShelfError.NoMemory self.old.calls.faults self.new.calls.faults self.old.store.starved self.new.store.starved result }
+        ensures cause { Caused ShelfError.Failed ShelfError.NoMemory self.old self.new result }
         ensures failed { (result ≡ Err ShelfError.Failed) ↔ IsListed self.old.calls }
         ensures counted { Counted self.old.calls self.new.calls }
     {
@@ -179,5 +178,7 @@ impl Shelf for MemShelf {
 
     ghost told_together = { λ shelf. told-is_some shelf.store.files.items };
 
-    ghost pending_is_there = { λ shelf name told pending. pending-has _ _ _ shelf.store.ascending shelf.store.there pending };
+    ghost contents_are_bytes = { λ shelf. told-bytes _ shelf.store.ascending shelf.store.bytes };
+
+    ghost unsealed_is_there = { λ shelf name told unsealed. unsealed-has _ _ _ shelf.store.ascending shelf.store.there unsealed };
 }

@@ -53,7 +53,7 @@ impl Sink for MemSink {
 
     ghost faults = { λ sink. sink.calls.faults };
 
-    #[tactic(auto, using(crate::proofs::ReportLaws::report_laws))]
+    #[tactic(auto, using(crate::specs::ReportLaws::report_laws))]
     fn write(&mut self, bytes: &[u8]) -> Result<(), SinkFailed>
         ensures ok { OnOk result (Some self.new.bytes.items ≡ with_text (Some self.old.bytes.items) bytes.now) }
         ensures err { OnErr result (WrittenPartly (Some self.old.bytes.items) bytes.now (Some self.new.bytes.items)) }

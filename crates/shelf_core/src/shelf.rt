@@ -1,7 +1,7 @@
 ghost use Rattle.std.specs.Prelude.{◌≡◌, ◌≤◌, ℕ, List, [], length, Option, IfOk, OnOk, OnErr, is_some};
 ghost use Rattle.shelf_core.specs.Causes.{HasCause};
 ghost use Rattle.shelf_core.specs.Listing.{plain_entries};
-ghost use Rattle.shelf_core.specs.Told.{Files, IsTold, HasFile, IsFree, content, length_of, with_file, grown, under, GrewPartly, IsRead, IsPending, IsAtRest, with_pending, without_pending};
+ghost use Rattle.shelf_core.specs.Told.{Files, IsTold, HasFile, HoldsBytes, IsFree, content, length_of, with_file, grown, under, GrewPartly, IsRead, IsUnsealedIn, IsNotUnsealed, with_unsealed, without_unsealed};
 
 use cook_bits::{Name, Named};
 use thiserror::Error;
@@ -94,9 +94,9 @@ pub trait Shelf {
     /// changes nothing.
     fn create(&mut self, name: &str) -> Result<(), CreateError>
         ensures free { OnOk result (IsFree (files self.old) name.now) }
-        ensures at_rest { OnOk result (IsAtRest (unsealed self.old) name.now) }
+        ensures not_unsealed { OnOk result (IsNotUnsealed (unsealed self.old) name.now) }
         ensures created { OnOk result (files self.new ≡ with_file (files self.old) name.now []) }
-        ensures pending { OnOk result (unsealed self.new ≡ with_pending (unsealed self.old) name.now) }
+        ensures unsealed { OnOk result (unsealed self.new ≡ with_unsealed (unsealed self.old) name.now) }
         ensures exists { result ≡ Err CreateError.Exists → HasFile (files self.old) name.now }
         ensures files_kept { OnErr result (files self.new ≡ files self.old) }
         ensures unsealed_kept { OnErr result (unsealed self.new ≡ unsealed self.old) }
@@ -110,7 +110,7 @@ pub trait Shelf {
 
     /// Adds bytes at the end of a file that was created and not sealed. After a refusal the first of them may have been added.
     fn append(&mut self, name: &str, bytes: &[u8]) -> Result<(), ShelfError>
-        requires { IsPending (unsealed self.old) name.now }
+        requires { IsUnsealedIn (unsealed self.old) name.now }
         ensures ok { OnOk result (files self.new ≡ grown (files self.old) name.now bytes.now) }
         ensures err { OnErr result (GrewPartly (files self.old) name.now bytes.now (files self.new)) }
         ensures unsealed { unsealed self.new ≡ unsealed self.old }
@@ -118,15 +118,18 @@ pub trait Shelf {
 
     /// Ends the writing of a file.
     fn seal(&mut self, name: &str) -> Result<(), ShelfError>
-        requires { IsPending (unsealed self.old) name.now }
+        requires { IsUnsealedIn (unsealed self.old) name.now }
         ensures files { files self.new ≡ files self.old }
-        ensures sealed { OnOk result (unsealed self.new ≡ without_pending (unsealed self.old) name.now) }
+        ensures sealed { OnOk result (unsealed self.new ≡ without_unsealed (unsealed self.old) name.now) }
         ensures unsealed_kept { OnErr result (unsealed self.new ≡ unsealed self.old) }
         ensures cause { HasCause ShelfError.Failed ShelfError.NoMemory (faults self.old) (faults self.new) (starved self.old) (starved self.new) result };
 
     /// The unsealed files are told exactly where the files are.
     ghost told_together: { (shelf : Self) → is_some (files shelf) ≡ is_some (unsealed shelf) };
 
+    /// The contents of its files are bytes.
+    ghost contents_are_bytes: { (shelf : Self) → HoldsBytes (files shelf) };
+
     /// Each unsealed file is one of the files.
-    ghost pending_is_there: { (shelf : Self) (name : List ℕ) → IsTold (files shelf) → IsPending (unsealed shelf) name → HasFile (files shelf) name };
+    ghost unsealed_is_there: { (shelf : Self) (name : List ℕ) → IsTold (files shelf) → IsUnsealedIn (unsealed shelf) name → HasFile (files shelf) name };
 }

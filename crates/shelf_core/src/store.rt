@@ -1,11 +1,12 @@
 ghost use Rattle.std.specs.Prelude.{◌≡◌, [], length, Some, OnOk, OnErr, IfOk};
+ghost use Rattle.std.proofs.Props.{props};
 ghost use Rattle.shelf_core.specs.Causes.{HasCause};
 ghost use Rattle.shelf_core.specs.Listing.{plain_entries};
-ghost use Rattle.shelf_core.specs.Told.{HasFile, IsFree, IsAtRest, IsPending, IsRead, GrewPartly, content, length_of, under, with_file, with_pending, without_pending, grown};
-ghost use Rattle.shelf_core.specs.Store.{IsAscending, AreThere, told_of};
+ghost use Rattle.shelf_core.specs.Told.{HasFile, IsFree, IsNotUnsealed, IsUnsealedIn, IsRead, GrewPartly, content, length_of, under, with_file, with_unsealed, without_unsealed, grown};
+ghost use Rattle.shelf_core.specs.Store.{IsAscending, AreOfBytes, AreThere, told_of};
 
 use crate::calls::one_more;
-use crate::files::{add_file, append_to, bytes_of, drop_name, entries_under};
+use crate::files::{add_file, append_to, bytes_of, drop_name, entries_under, hold_bytes};
 use crate::{CreateError, Entry, ShelfError};
 use cook_bits::{Bytes, Name};
 use std::alloc::Global;
@@ -21,6 +22,7 @@ pub struct Store {
     starved: u64,
     ghost ascending: { IsAscending files.items },
     ghost there: { AreThere unsealed.items files.items },
+    ghost bytes: { AreOfBytes files.items } by { Prim.hlevel props },
 }
 
 impl Store {
@@ -32,6 +34,7 @@ impl Store {
         ensures unsealed { result.unsealed.items ≡ [] }
         ensures starved { result.starved ≡ 0 }
     {
+        hold_bytes(files.as_slice());
         Store {
             alloc,
             files,
@@ -95,9 +98,9 @@ impl Store {
     #[tactic(auto, using(crate::proofs::StoreLaws::store_facts))]
     pub fn create(&mut self, name: &str) -> Result<(), CreateError>
         ensures free { OnOk result (IsFree (told_of self.old.files.items) name.now) }
-        ensures at_rest { OnOk result (IsAtRest (Some self.old.unsealed.items) name.now) }
+        ensures not_unsealed { OnOk result (IsNotUnsealed (Some self.old.unsealed.items) name.now) }
         ensures created { OnOk result (told_of self.new.files.items ≡ with_file (told_of self.old.files.items) name.now []) }
-        ensures pending { OnOk result (Some self.new.unsealed.items ≡ with_pending (Some self.old.unsealed.items) name.now) }
+        ensures unsealed { OnOk result (Some self.new.unsealed.items ≡ with_unsealed (Some self.old.unsealed.items) name.now) }
         ensures exists { result ≡ Err CreateError.Exists → HasFile (told_of self.old.files.items) name.now }
         ensures in_the_way { HasFile (told_of self.old.files.items) name.now → result ≡ Err CreateError.Exists }
         ensures files_kept { OnErr result (self.new.files.items ≡ self.old.files.items) }
@@ -114,7 +117,7 @@ impl Store {
     /// Adds bytes at the end of an unsealed file. A refusal changes nothing but the count.
     #[tactic(auto, using(crate::proofs::StoreLaws::store_facts))]
     pub fn append(&mut self, name: &str, bytes: &[u8]) -> Result<(), ShelfError>
-        requires { IsPending (Some self.old.unsealed.items) name.now }
+        requires { IsUnsealedIn (Some self.old.unsealed.items) name.now }
         ensures ok { OnOk result (told_of self.new.files.items ≡ grown (told_of self.old.files.items) name.now bytes.now) }
         ensures err { OnErr result (GrewPartly (told_of self.old.files.items) name.now bytes.now (told_of self.new.files.items)) }
         ensures unsealed { self.new.unsealed.items ≡ self.old.unsealed.items }
@@ -131,7 +134,7 @@ impl Store {
     #[tactic(auto, using(crate::proofs::StoreLaws::store_facts))]
     pub fn seal(&mut self, name: &str)
         ensures files { self.new.files.items ≡ self.old.files.items }
-        ensures unsealed { Some self.new.unsealed.items ≡ without_pending (Some self.old.unsealed.items) name.now }
+        ensures unsealed { Some self.new.unsealed.items ≡ without_unsealed (Some self.old.unsealed.items) name.now }
         ensures starved { self.new.starved ≡ self.old.starved }
     {
         drop_name(&mut self.unsealed, name);

@@ -1,2 +1,3 @@
 -- Parts of files.
+pub mod PartLaws
 pub mod Parts

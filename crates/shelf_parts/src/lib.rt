@@ -3,4 +3,4 @@
 
 mod parts;
 
-pub use parts::{Part, copy_part, sum_part};
+pub use parts::{FilePart, copy_part, sum_part};

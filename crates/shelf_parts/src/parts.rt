@@ -9,7 +9,7 @@ use shelf_core::{PieceError, Shelf, read_piece};
 
 /// A part of a file.
 #[derive(Clone, Copy, Debug)]
-pub struct Part<'a> {
+pub struct FilePart<'a> {
     /// The name of the file.
     pub name: &'a str,
     /// Where the part starts.
@@ -21,7 +21,7 @@ pub struct Part<'a> {
 // Reads the next piece of a part, behind those that are done, into the front of the buffer, and answers its length.
 fn read_next<S: Shelf>(
     shelf: &mut S,
-    part: Part<'_>,
+    part: FilePart<'_>,
     done: u64,
     buffer: &mut [u8],
 ) -> Result<usize, PieceError>
@@ -43,10 +43,10 @@ fn read_next<S: Shelf>(
 
 /// The MD5 of a part, read piece by piece: at most `buffer.len()` bytes are held at once. A part that fits the buffer is one
 /// piece, and is left at its front. Where the file ends before the part does, it answers at which place.
-#[tactic(auto, using(crate::proofs::PartLaws::part_laws))]
+#[tactic(auto, using(crate::specs::PartLaws::part_laws))]
 pub fn sum_part<S: Shelf>(
     shelf: &mut S,
-    part: Part<'_>,
+    part: FilePart<'_>,
     buffer: &mut [u8],
 ) -> Result<[u8; 16], PieceError>
     requires room { 0 < length buffer.old }
@@ -72,17 +72,17 @@ pub fn sum_part<S: Shelf>(
 }
 
 /// Appends a part to another file, piece by piece, and answers its MD5. At most `buffer.len()` bytes are held at once.
-#[tactic(auto, using(shelf_core::proofs::FileLaws::file_laws, shelf_core::proofs::PieceLaws::piece_laws, crate::proofs::PartLaws::part_laws))]
+#[tactic(auto, using(shelf_core::specs::FileLaws::file_laws, shelf_core::specs::PieceLaws::piece_laws, crate::specs::PartLaws::part_laws))]
 pub fn copy_part<S: Shelf>(
     shelf: &mut S,
-    part: Part<'_>,
+    part: FilePart<'_>,
     to: &str,
     buffer: &mut [u8],
 ) -> Result<[u8; 16], PieceError>
     requires room { 0 < length buffer.old }
     requires there { Has S.Shelf shelf.old part.name.now }
     requires open { IsUnsealed S.Shelf shelf.old to.now }
-    requires target { Has S.Shelf shelf.old to.now }
+    requires to_there { Has S.Shelf shelf.old to.now }
     requires apart { Differ S.Shelf shelf.old part.name.now to.now }
     requires fits { part.at + part.len < 2 ^ 64 }
     requires measured { Tells S.Shelf shelf.old → part.len ≤ file_len S.Shelf shelf.old part - part.at }

@@ -1,6 +1,2 @@
--- Laws of what is known of a file's bytes, of readings, of a reader's window and of walks.
-pub mod KeepingLaws
-pub mod ReadingLaws
-pub mod SeenLaws
-pub mod WalkLaws
+-- Laws of the window of a reader.
 pub mod WindowLaws

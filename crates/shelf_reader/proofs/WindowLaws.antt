@@ -4,7 +4,7 @@ use Rattle.std.proofs.lemmas.Bool.{false_from_ne_true}
 use Rattle.std.proofs.lemmas.List.{take-take, drop-take, drop-drop}
 use Rattle.std.specs.Cmp.Lexicographic.{as_long}
 use Rattle.shelf_reader.specs.Seen.{Seen, Sees, Holds, between, is_same_text, is_text_between}
-use Rattle.shelf_reader.proofs.SeenLaws.{Sees-so}
+use Rattle.shelf_reader.specs.SeenLaws.{Sees-so}
 
 part_of : (from place room count : ℕ) (held bytes : List ℕ) → from ≤ place → place + room ≤ from + count → held ≡ take count (drop from bytes) → take room (drop (place - from) held) ≡ take room (drop place bytes)
 part_of from place room count held bytes low high is =

@@ -1,20 +1,23 @@
 -- A reader as it was and as it is.
-use Rattle.std.specs.Prelude.{◌≡◌, ℕ, ◌+◌, ◌<◌, ◌≤◌, length, Result, IfErr}
-use Rattle.shelf_core.specs.Reads.{OnlyReads, Failed}
-use Rattle.shelf_core.specs.Told.{HasFile}
+use Rattle.std.specs.Prelude.{◌≡◌, ℕ, ◌+◌, ◌<◌, ◌≤◌, List, length, Result, IfErr}
+use Rattle.shelf_core.specs.Reads.{Has, OnlyReads, Failed}
 use Rattle.shelf_core.specs.declared.shelf.Shelf.{Ghosts}
 use Rattle.shelf_reader.specs.Seen.{Seen, seen, Holds}
 use Rattle.shelf_reader.specs.declared.error.ReadError.{ReadError}
 use Rattle.shelf_reader.specs.declared.error.ReadError.TheVariants as errors
 use Rattle.shelf_reader.specs.declared.reader.Reader.{Reader}
 
+-- the bytes of a file of a shelf, where it tells them and they are so many
+abbrev pub seen_on : {S : Type 0} → Ghosts S → S → List ℕ → ℕ → Seen
+seen_on g shelf name len = seen (g.files shelf) name len
+
 -- the bytes of the reader's file, where the shelf tells them and they are as many as was said
 abbrev pub known : {S : Type 0} → Ghosts S → Reader S → Seen
-known g reader = seen (g.files reader.shelf.now) reader.name.now reader.len
+known g reader = seen_on g reader.shelf.now reader.name.now reader.len
 
 -- the file is there, and the window holds what it says
 pub record IsReady {S : Type 0} (g : Ghosts S) (reader : Reader S) : Type 0 where
-  pub there : HasFile (g.files reader.shelf.now) reader.name.now
+  pub there : Has g reader.shelf.now reader.name.now
   pub holds : Holds (known g reader) reader.from reader.bytes.now.items
 
 -- a fault of the shelf comes only where the count of faults rose, and an early end only with a place below the length

@@ -1,11 +1,17 @@
 -- The items that stand one after the other in a parent, by the grammar of a format, and a walk over them.
-use Rattle.std.specs.Prelude.{ℕ, zero, suc, ◌-◌, nat_lt, if◌then◌else◌}
+use Rattle.std.specs.Prelude.{◌≡◌, ℕ, zero, suc, ◌-◌, ◌<◌, ◌≤◌, nat_lt, if◌then◌else◌, List, Ok}
 use Rattle.shelf_reader.specs.Readings.{Reading, gives, thence}
 
 -- What stands at a place of a parent that ends at an end, and the place behind it.
 pub record Grammar (Item F : Type 0) : Type 0 where
   pub item_at : ℕ → ℕ → Reading Item F
   pub behind : Item → ℕ
+
+-- each item ends behind its place, where its parent does or before
+abbrev pub GoesOn : {Item F : Type 0} → Grammar Item F → Type 0
+GoesOn {Item} grammar =
+    (end place : ℕ) (bytes : List ℕ) (item : Item) → grammar.item_at end place bytes ≡ Ok item
+    → (place < grammar.behind item) × (grammar.behind item ≤ end)
 
 -- What a walk does at an item, from what it knows so far: it knows more then, or finds a fault.
 abbrev pub Visit : Type 0 → Type 0 → Type 0 → Type 0

@@ -1,10 +1,9 @@
 // The bytes of a file, read through a window, so that the heads of many small items cost one call of the shelf.
 ghost use Rattle.std.specs.Prelude.{◌≡◌, ◌+◌, ◌-◌, ◌≤◌, [], length, take, drop, vec_len, OnOk, OnErr, IfOk, IfErr};
-ghost use Rattle.shelf_core.specs.Reads.{OnlyReads};
-ghost use Rattle.shelf_core.specs.Told.{HasFile};
-ghost use Rattle.shelf_reader.specs.Seen.{seen, Sees, Holds, between, is_text_between};
+ghost use Rattle.shelf_core.specs.Reads.{Has, OnlyReads};
+ghost use Rattle.shelf_reader.specs.Seen.{Sees, Holds, between, is_text_between};
 ghost use Rattle.shelf_reader.specs.Readings.{gives, answers, Answers};
-ghost use Rattle.shelf_reader.specs.Keeping.{known, IsReady, Reads, Shows, StopsFor};
+ghost use Rattle.shelf_reader.specs.Keeping.{known, seen_on, IsReady, Reads, Shows, StopsFor};
 
 use crate::ReadError;
 use cook_bits::Bytes;
@@ -28,7 +27,7 @@ pub struct Reader<'a, 'b, S> {
 
 impl<'a, 'b, S: Shelf> Reader<'a, 'b, S> {
     /// A reader of a file of `len` bytes, with a buffer for its window. It takes no memory.
-    #[tactic(auto, using(crate::proofs::SeenLaws::seen_laws))]
+    #[tactic(auto, using(crate::specs::SeenLaws::seen_laws))]
     pub fn new(
         alloc: Global,
         shelf: &'a mut S,
@@ -36,7 +35,7 @@ impl<'a, 'b, S: Shelf> Reader<'a, 'b, S> {
         len: u64,
         bytes: &'a mut Vec<u8>,
     ) -> Reader<'a, 'b, S>
-        requires { HasFile (S.files shelf.old) name.now }
+        requires { Has S.Shelf shelf.old name.now }
         ensures same_shelf { result.shelf.ghost_name ≡ shelf.entry.ghost_name }
         ensures same_buffer { result.bytes.ghost_name ≡ bytes.entry.ghost_name }
         ensures shelf { result.shelf.now ≡ shelf.entry.now }
@@ -71,7 +70,7 @@ impl<'a, 'b, S: Shelf> Reader<'a, 'b, S> {
 }
 
 // Fills a piece with the bytes of a file of `len` bytes from a place on.
-#[tactic(auto, using(crate::proofs::ReadingLaws::piece_laws, crate::proofs::ReadingLaws::reading_laws))]
+#[tactic(auto, using(crate::specs::ReadingLaws::piece_laws, crate::specs::ReadingLaws::reading_laws))]
 fn fill<S: Shelf, F: Drop>(
     shelf: &mut S,
     name: &str,
@@ -79,10 +78,10 @@ fn fill<S: Shelf, F: Drop>(
     at: u64,
     piece: &mut [u8],
 ) -> Result<(), ReadError<F>>
-    requires there { HasFile (S.files shelf.old) name.now }
+    requires there { Has S.Shelf shelf.old name.now }
     requires within { at + length piece.old ≤ len }
-    ensures holds { OnOk result (Holds (seen (S.files shelf.old) name.now len) at piece.new) }
-    ensures exact { Answers (seen (S.files shelf.old) name.now len) (gives tt) result }
+    ensures holds { OnOk result (Holds (seen_on S.Shelf shelf.old name.now len) at piece.new) }
+    ensures exact { Answers (seen_on S.Shelf shelf.old name.now len) (gives tt) result }
     ensures only { OnlyReads S.Shelf shelf.old shelf.new }
     ensures stops { IfErr result (StopsFor S.Shelf len shelf.old shelf.new) }
 {
@@ -91,7 +90,7 @@ fn fill<S: Shelf, F: Drop>(
 }
 
 // Fills a buffer with so many bytes of a file of `len` bytes from a place on. After a refusal nothing is said of it.
-#[tactic(auto, using(crate::proofs::ReadingLaws::piece_laws))]
+#[tactic(auto, using(crate::specs::ReadingLaws::piece_laws))]
 fn fill_buffer<S: Shelf, F: Drop>(
     shelf: &mut S,
     name: &str,
@@ -100,11 +99,11 @@ fn fill_buffer<S: Shelf, F: Drop>(
     count: usize,
     bytes: &mut Vec<u8>,
 ) -> Result<(), ReadError<F>>
-    requires there { HasFile (S.files shelf.old) name.now }
+    requires there { Has S.Shelf shelf.old name.now }
     requires within { at + count ≤ len }
     ensures count { OnOk result (vec_len bytes.new ≡ count) }
-    ensures holds { OnOk result (Holds (seen (S.files shelf.old) name.now len) at bytes.new.items) }
-    ensures exact { Answers (seen (S.files shelf.old) name.now len) (gives tt) result }
+    ensures holds { OnOk result (Holds (seen_on S.Shelf shelf.old name.now len) at bytes.new.items) }
+    ensures exact { Answers (seen_on S.Shelf shelf.old name.now len) (gives tt) result }
     ensures only { OnlyReads S.Shelf shelf.old shelf.new }
     ensures stops { IfErr result (StopsFor S.Shelf len shelf.old shelf.new) }
 {
@@ -114,7 +113,7 @@ fn fill_buffer<S: Shelf, F: Drop>(
 
 impl<'a, 'b, S: Shelf> Reader<'a, 'b, S> {
     // Moves the window to a place, so that so many bytes from there on stand in it.
-    #[tactic(auto, using(crate::proofs::SeenLaws::seen_laws, crate::proofs::ReadingLaws::reading_laws))]
+    #[tactic(auto, using(crate::specs::SeenLaws::seen_laws, crate::specs::ReadingLaws::reading_laws))]
     fn move_to<F: Drop>(&mut self, at: u64, count: usize) -> Result<(), ReadError<F>>
         requires ready { IsReady S.Shelf self.old }
         requires within { at + count ≤ self.old.len }
@@ -132,7 +131,7 @@ impl<'a, 'b, S: Shelf> Reader<'a, 'b, S> {
     }
 
     /// Moves the window to where the bytes from one place up to another stand in it: at most `ROOM` of them.
-    #[tactic(auto, using(crate::proofs::ReadingLaws::reading_laws))]
+    #[tactic(auto, using(crate::specs::ReadingLaws::reading_laws))]
     pub fn show<F: Drop>(&mut self, from: u64, to: u64) -> Result<(), ReadError<F>>
         requires ready { IsReady S.Shelf self.old }
         requires before { from ≤ to }
@@ -164,7 +163,7 @@ impl<'a, 'b, S: Shelf> Reader<'a, 'b, S> {
 
     /// A copy of the bytes from one place up to another: from the window, or at once where they are too many for it. No more
     /// memory is taken than the file has bytes.
-    #[tactic(auto, using(crate::proofs::ReadingLaws::reading_laws, crate::proofs::WindowLaws::window_laws))]
+    #[tactic(auto, using(crate::specs::ReadingLaws::reading_laws, crate::proofs::WindowLaws::window_laws))]
     pub fn copy<F: Drop>(&mut self, from: u64, to: u64) -> Result<Bytes, ReadError<F>>
         requires ready { IsReady S.Shelf self.old }
         requires before { from ≤ to }
@@ -190,7 +189,7 @@ impl<'a, 'b, S: Shelf> Reader<'a, 'b, S> {
     }
 
     /// Whether a text of at most `ROOM` bytes stands from one place up to another.
-    #[tactic(auto, using(crate::proofs::ReadingLaws::reading_laws, crate::proofs::WindowLaws::window_laws, crate::proofs::SeenLaws::seen_laws))]
+    #[tactic(auto, using(crate::specs::ReadingLaws::reading_laws, crate::proofs::WindowLaws::window_laws, crate::specs::SeenLaws::seen_laws))]
     pub fn is_text<F: Drop>(
         &mut self,
         from: u64,

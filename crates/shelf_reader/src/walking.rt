@@ -1,8 +1,8 @@
 // The items that stand one after the other in a parent, and one walk over them for every format and every parent.
-ghost use Rattle.std.specs.Prelude.{◌≡◌, ℕ, ◌<◌, ◌≤◌, List, Ok, IfOk};
+ghost use Rattle.std.specs.Prelude.{◌≡◌, ℕ, ◌<◌, ◌≤◌, IfOk};
 ghost use Rattle.shelf_reader.specs.Keeping.{known, IsReady, Reads};
 ghost use Rattle.shelf_reader.specs.Readings.{Reading, Answers};
-ghost use Rattle.shelf_reader.specs.Walk.{Grammar, walked};
+ghost use Rattle.shelf_reader.specs.Walk.{Grammar, GoesOn, walked};
 
 use crate::{ReadError, Reader};
 use shelf_core::Shelf;
@@ -45,7 +45,7 @@ pub trait Items {
     ghost widens: { (end len : ℕ) (item : Self.Item) → Sits end item → end ≤ len → Sits len item };
 
     /// By the grammar too, each item ends behind its place, where its parent does or before.
-    ghost goes_on: { (end place : ℕ) (bytes : List ℕ) (item : Self.Item) → grammar.item_at end place bytes ≡ Ok item → (place < grammar.behind item) × (grammar.behind item ≤ end) };
+    ghost goes_on: { GoesOn grammar };
 }
 
 /// What is known of the children of a parent, as far as they were read.
@@ -72,7 +72,7 @@ pub trait Children<G: Items>: Drop {
 
 /// Reads the children that stand from a place of a parent up to its end, one after the other. The first fault, of an item
 /// or of its visit, ends the walk.
-#[tactic(auto, using(crate::proofs::WalkLaws::walk_laws, crate::proofs::KeepingLaws::keeping_laws))]
+#[tactic(auto, using(crate::specs::WalkLaws::walk_laws, crate::specs::KeepingLaws::keeping_laws))]
 pub fn walk<S: Shelf, G: Items, C: Children<G>>(
     reader: &mut Reader<'_, '_, S>,
     children: C,

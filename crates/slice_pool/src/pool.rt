@@ -181,24 +181,24 @@ fn both_halves<R: Threads + Sync, T: TileTask, G: Gate + Sync>(
     ensures next_fit { All (λ s. T.Fits work.now.task.now s) next_scratch.new }
 {
     let mut front = ||
-        requires { IsSync R.row × IsSync T.row × IsSync G.row
-            × IsSound work.now.bounds.now work.now.workers
-            × AreShares work.now.bounds.now work.now.workers share shares first (length answers.now)
-            × (length scratch.now ≡ shares)
-            × PartTaken (T.Takes work.now.task.now) work.now.bounds.now first (length answers.now) part.now
-            × All (λ s. T.Fits work.now.task.now s) scratch.now }
-        ensures { PartDone (T.Does work.entry.now.task.now) work.entry.now.bounds.now first part.entry.now part.exit.now answers.exit.now
-            × All (λ s. T.Fits work.entry.now.task.now s) scratch.exit.now }
+        requires sync { IsSync R.row × IsSync T.row × IsSync G.row }
+        requires sound { IsSound work.now.bounds.now work.now.workers }
+        requires shares { AreShares work.now.bounds.now work.now.workers share shares first (length answers.now) }
+        requires scratches { length scratch.now ≡ shares }
+        requires taken { PartTaken (T.Takes work.now.task.now) work.now.bounds.now first (length answers.now) part.now }
+        requires fit { All (λ s. T.Fits work.now.task.now s) scratch.now }
+        ensures done { PartDone (T.Does work.entry.now.task.now) work.entry.now.bounds.now first part.entry.now part.exit.now answers.exit.now }
+        ensures fit { All (λ s. T.Fits work.entry.now.task.now s) scratch.exit.now }
     { run_shares(work, share, shares, first, part, scratch, answers) };
     let mut back = ||
-        requires { IsSync R.row × IsSync T.row × IsSync G.row
-            × IsSound work.now.bounds.now work.now.workers
-            × AreShares work.now.bounds.now work.now.workers next_share next_shares next_first (length next_answers.now)
-            × (length next_scratch.now ≡ next_shares)
-            × PartTaken (T.Takes work.now.task.now) work.now.bounds.now next_first (length next_answers.now) next_part.now
-            × All (λ s. T.Fits work.now.task.now s) next_scratch.now }
-        ensures { PartDone (T.Does work.entry.now.task.now) work.entry.now.bounds.now next_first next_part.entry.now next_part.exit.now next_answers.exit.now
-            × All (λ s. T.Fits work.entry.now.task.now s) next_scratch.exit.now }
+        requires sync { IsSync R.row × IsSync T.row × IsSync G.row }
+        requires sound { IsSound work.now.bounds.now work.now.workers }
+        requires shares { AreShares work.now.bounds.now work.now.workers next_share next_shares next_first (length next_answers.now) }
+        requires scratches { length next_scratch.now ≡ next_shares }
+        requires taken { PartTaken (T.Takes work.now.task.now) work.now.bounds.now next_first (length next_answers.now) next_part.now }
+        requires fit { All (λ s. T.Fits work.now.task.now s) next_scratch.now }
+        ensures done { PartDone (T.Does work.entry.now.task.now) work.entry.now.bounds.now next_first next_part.entry.now next_part.exit.now next_answers.exit.now }
+        ensures fit { All (λ s. T.Fits work.entry.now.task.now s) next_scratch.exit.now }
     {
         run_shares(
             work,

@@ -16,7 +16,7 @@ pub fn sink(alloc: Global, fail_call: u32) -> Result<MemSink, Fail> {
 }
 
 // Makes a file, and seals it.
-#[tactic(auto, using(shelf_core::proofs::FileLaws::file_laws))]
+#[tactic(auto, using(shelf_core::specs::FileLaws::file_laws))]
 pub fn add_file<S: Shelf>(shelf: &mut S, name: &str, bytes: &[u8]) -> Result<(), Fail> {
     shelf.create(name)?;
     shelf.append(name, bytes)?;

@@ -1,6 +1,6 @@
 // The shelves and the sink in memory by themselves.
 ghost use Rattle.std.specs.Prelude.{OnOk};
-ghost use Rattle.shelf_core.specs.Told.{HasFile};
+ghost use Rattle.shelf_core.specs.Reads.{Has};
 
 use cook_bits::{Bytes, Name};
 use shelf_core::{CalmShelf, CreateError, MemShelf, MemSink, Shelf, ShelfError, Sink, SinkFailed};
@@ -8,9 +8,9 @@ use std::process::Abort;
 use std::test::Fail;
 
 // Makes a file of five bytes in two pieces, and seals it.
-#[tactic(auto, using(shelf_core::proofs::FileLaws::file_laws))]
+#[tactic(auto, using(shelf_core::specs::FileLaws::file_laws))]
 fn write_five<S: Shelf>(shelf: &mut S, name: &str) -> Result<(), Fail>
-    ensures { OnOk result (HasFile (S.files shelf.new) name.now) }
+    ensures { OnOk result (Has S.Shelf shelf.new name.now) }
 {
     shelf.make_folder("d")?;
     shelf.create(name)?;
@@ -22,7 +22,7 @@ fn write_five<S: Shelf>(shelf: &mut S, name: &str) -> Result<(), Fail>
 
 // Reads these five bytes back in two pieces.
 fn read_five<S: Shelf>(rt: &impl Abort, shelf: &mut S, name: &str) -> Result<(), Fail>
-    requires { HasFile (S.files shelf.old) name.now }
+    requires { Has S.Shelf shelf.old name.now }
 {
     let mut piece = [0u8; 4];
     assert_eq!(rt; shelf.read_at(name, 0, &mut piece)?, 4);
@@ -46,7 +46,7 @@ fn keeps_a_file<S: Shelf>(rt: &impl Abort, shelf: &mut S) -> Result<(), Fail> {
 }
 
 // Makes a file, and answers what the first append to it answers.
-#[tactic(auto, using(shelf_core::proofs::FileLaws::file_laws))]
+#[tactic(auto, using(shelf_core::specs::FileLaws::file_laws))]
 fn first_append<S: Shelf>(
     shelf: &mut S,
     name: &str,
@@ -100,8 +100,8 @@ fn files_stand_in_byte_order_and_unsealed_names_in_order_of_creation(
     for (file, name) in shelf.files().iter().zip(["a!", "a/b", "a0"]) {
         assert_eq!(rt; file.0.as_str(), name);
     }
-    for (pending, name) in shelf.unsealed().iter().zip(["a0", "a/b", "a!"]) {
-        assert_eq!(rt; pending.as_str(), name);
+    for (unsealed, name) in shelf.unsealed().iter().zip(["a0", "a/b", "a!"]) {
+        assert_eq!(rt; unsealed.as_str(), name);
     }
     let entries = shelf.list("a")?;
     assert_eq!(rt; entries.len(), 1);

@@ -58,11 +58,11 @@ impl Untold<'_> {
     }
 }
 
-#[tactic(auto, unfolding(shelf_core::specs::Told::IsTold, shelf_core::specs::Told::IsFree, shelf_core::specs::Told::IsAtRest, shelf_core::specs::Told::with_file, shelf_core::specs::Told::with_pending, shelf_core::specs::Told::without_pending))]
+#[tactic(auto, unfolding(shelf_core::specs::Told::IsTold, shelf_core::specs::Told::IsFree, shelf_core::specs::Told::IsNotUnsealed, shelf_core::specs::Told::with_file, shelf_core::specs::Told::with_unsealed, shelf_core::specs::Told::without_unsealed))]
 impl Shelf for Untold<'_> {
     ghost use Rattle.std.specs.Prelude.{None};
     ghost use Rattle.std.proofs.Common.{refl};
-    ghost use Rattle.shelf_core.specs.Untold.{has_file};
+    ghost use Rattle.shelf_core.specs.Untold.{has_file, no_content};
 
     ghost files = { λ shelf. None };
 
@@ -74,7 +74,9 @@ impl Shelf for Untold<'_> {
 
     ghost told_together = { λ shelf. refl };
 
-    ghost pending_is_there = { λ shelf name told pending. has_file name };
+    ghost contents_are_bytes = { λ shelf. no_content };
+
+    ghost unsealed_is_there = { λ shelf name told unsealed. has_file name };
 
     fn list(&mut self, _root: &str) -> Result<Vec<Entry>, ShelfError> {
         match entries(self.alloc, self.found, self.more) {

@@ -7,7 +7,7 @@ use Rattle.cook_pack.proofs.GrowLaws.{GrewInPart-nothing, on_err}
 use Rattle.cook_pack.proofs.attach.attach_file.Goals as goal
 
 pub returns-in_err-head-clause-stopped : goal.returns-in_err-head-clause-stopped
-returns-in_err-head-clause-stopped g c = on_err _ (GrewInPart-nothing _ _ _ _ c.requires.target)
+returns-in_err-head-clause-stopped g c = on_err _ (GrewInPart-nothing _ _ _ _ c.requires.to_there)
 
 pub returns-in_err-append_piece-clause-stopped : goal.returns-in_err-append_piece-clause-stopped
 returns-in_err-append_piece-clause-stopped g c =

@@ -7,13 +7,13 @@ use Rattle.cook_pack.proofs.PlannedLaws.{attached-all, attached-front, attached-
 use Rattle.cook_pack.proofs.attach.attach_others.Goals as goal
 
 pub returns-in_err-held-clause-stopped : goal.returns-in_err-held-clause-stopped
-returns-in_err-held-clause-stopped g c = on_err _ (GrewInPart-nothing _ _ _ _ c.requires.target)
+returns-in_err-held-clause-stopped g c = on_err _ (GrewInPart-nothing _ _ _ _ c.requires.to_there)
 
 pub loop-file-init : goal.loop-file-init
 loop-file-init g c = record {
   room = omega (arith, ap length c.as_mut_slice-buffer.ensures.value, c.in_ok-held.ensures);
   numbered = refl;
-  grew = attached-none _ _ _ c.requires.target;
+  grew = attached-none _ _ _ c.requires.to_there;
   records = subst (AreRecordsOf g.S.Shelf c.args.shelf.now []) (sym c.new-records.ensures.items) (records-none (g.S.Shelf.files c.args.shelf.now) (files_on g.S.Shelf c.args.shelf.now c.args.plan.now));
 }
 
@@ -22,8 +22,8 @@ attach_planned-requires-clause-ready g c =
     (is_next g.S.Shelf _ _ c.args.plan.now _ _ c.root.result.now c.loop-file.uid c.loop-file.file-index c.as_slice-files.result.now c.file-item.result
     c.loop-file.invariant.grew c.requires.ready c.root.ensures c.as_slice-files.ensures.files c.loop-file.invariant.numbered c.loop-file-test.true c.file-item.is).ready
 
-pub attach_planned-requires-clause-target : goal.attach_planned-requires-clause-target
-attach_planned-requires-clause-target g c = Has-while_grown _ _ _ _ _ _ c.loop-file.invariant.grew c.requires.target
+pub attach_planned-requires-clause-to_there : goal.attach_planned-requires-clause-to_there
+attach_planned-requires-clause-to_there g c = Has-while_grown _ _ _ _ _ _ c.loop-file.invariant.grew c.requires.to_there
 
 pub returns-in_err-record-clause-stopped : goal.returns-in_err-record-clause-stopped
 returns-in_err-record-clause-stopped g c =

@@ -10,10 +10,10 @@ use Rattle.cook_pack.proofs.PlannedLaws.{is_record}
 use Rattle.cook_pack.proofs.attach.attach_planned.Goals as goal
 
 pub returns-in_err-from-clause-stopped : goal.returns-in_err-from-clause-stopped
-returns-in_err-from-clause-stopped g c = on_err _ (GrewInPart-nothing _ _ _ _ c.requires.target)
+returns-in_err-from-clause-stopped g c = on_err _ (GrewInPart-nothing _ _ _ _ c.requires.to_there)
 
 pub returns-in_err-held-clause-stopped : goal.returns-in_err-held-clause-stopped
-returns-in_err-held-clause-stopped g c = on_err _ (GrewInPart-nothing _ _ _ _ c.requires.target)
+returns-in_err-held-clause-stopped g c = on_err _ (GrewInPart-nothing _ _ _ _ c.requires.to_there)
 
 pub attach_file-requires-clause-name : goal.attach_file-requires-clause-name
 attach_file-requires-clause-name g c = omega (arith, ap length c.as_str-name.ensures, c.requires.ready.short)

@@ -5,8 +5,8 @@ use Rattle.cook_pack.proofs.offence.fault_by_file.Goals as goal
 pub returns-then-len-total : goal.returns-then-len-total
 returns-then-len-total c = sym (by_file-large c.args.total c.args.name.now c.args.len c.requires c.if-len-total.true)
 
-pub returns-then-is_film : goal.returns-then-is_film
-returns-then-is_film c = sym (by_file-small c.args.total c.args.name.now c.args.len true c.requires c.if-len-total.false (sym c.is_film.ensures ∙ c.if-is_film.true))
+pub returns-then-is_film_or_sound : goal.returns-then-is_film_or_sound
+returns-then-is_film_or_sound c = sym (by_file-small c.args.total c.args.name.now c.args.len true c.requires c.if-len-total.false (sym c.is_film_or_sound.ensures ∙ c.if-is_film_or_sound.true))
 
-pub returns-else-is_film : goal.returns-else-is_film
-returns-else-is_film c = sym (by_file-small c.args.total c.args.name.now c.args.len false c.requires c.if-len-total.false (sym c.is_film.ensures ∙ c.if-is_film.false))
+pub returns-else-is_film_or_sound : goal.returns-else-is_film_or_sound
+returns-else-is_film_or_sound c = sym (by_file-small c.args.total c.args.name.now c.args.len false c.requires c.if-len-total.false (sym c.is_film_or_sound.ensures ∙ c.if-is_film_or_sound.false))

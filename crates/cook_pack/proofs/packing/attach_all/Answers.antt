@@ -22,8 +22,8 @@ attach_side-requires-clause-few g c = omega (arith, ap length c.as_slice-records
 pub attach_side-requires-clause-open : goal.attach_side-requires-clause-open
 attach_side-requires-clause-open g c = rw c.in_ok-attached.ensures.attached.unsealed c.requires.open
 
-pub attach_side-requires-clause-target : goal.attach_side-requires-clause-target
-attach_side-requires-clause-target g c = Has-while_grown _ _ _ _ _ _ c.in_ok-attached.ensures.attached c.requires.target
+pub attach_side-requires-clause-to_there : goal.attach_side-requires-clause-to_there
+attach_side-requires-clause-to_there g c = Has-while_grown _ _ _ _ _ _ c.in_ok-attached.ensures.attached c.requires.to_there
 
 pub returns-in_err-attach_side-clause-stopped : goal.returns-in_err-attach_side-clause-stopped
 returns-in_err-attach_side-clause-stopped g c =

@@ -1,14 +1,14 @@
 use Rattle.std.proofs.Common.{◌≡◌, ◌++◌, length, ap, subst, ◌∙◌, sym, arith}
 use Rattle.shelf_core.specs.Writes.{Grew, GrewInPart}
 use Rattle.reversal.specs.SideData.{names_of, side_data_len}
-use Rattle.reversal.proofs.Lengths.{names_long}
+use Rattle.reversal.specs.Lengths.{names_long}
 use Rattle.cook_pack.specs.Package.{side_attached}
 use Rattle.cook_pack.proofs.GrowLaws.{GrewInPart-nothing, on_err}
 use Rattle.cook_pack.proofs.PackLaws.{side_data_len-le, side_attached-is}
 use Rattle.cook_pack.proofs.packing.attach_side.Goals as goal
 
 pub returns-in_err-side-clause-stopped : goal.returns-in_err-side-clause-stopped
-returns-in_err-side-clause-stopped g c = on_err _ (GrewInPart-nothing _ _ _ _ c.requires.target)
+returns-in_err-side-clause-stopped g c = on_err _ (GrewInPart-nothing _ _ _ _ c.requires.to_there)
 
 pub attached_head-requires-clause-content : goal.attached_head-requires-clause-content
 attached_head-requires-clause-content g c =
@@ -17,7 +17,7 @@ attached_head-requires-clause-content g c =
     omega (arith, short, long)
 
 pub returns-in_err-head-clause-stopped : goal.returns-in_err-head-clause-stopped
-returns-in_err-head-clause-stopped g c = on_err _ (GrewInPart-nothing _ _ _ _ c.requires.target)
+returns-in_err-head-clause-stopped g c = on_err _ (GrewInPart-nothing _ _ _ _ c.requires.to_there)
 
 pub returns-in_err-append_both-clause-stopped : goal.returns-in_err-append_both-clause-stopped
 returns-in_err-append_both-clause-stopped g c =

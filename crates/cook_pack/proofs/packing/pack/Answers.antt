@@ -1,7 +1,7 @@
 use Rattle.std.proofs.Common.{refl, ap, subst, ◌∙◌, sym, arith}
 use Rattle.std.proofs.lemmas.Result.{err_from_is_err_and}
-use Rattle.shelf_core.specs.Told.{HasFile, IsPending, without_pending}
-use Rattle.shelf_core.proofs.FileLaws.{HasFile-itself, IsPending-with_pending, without-with_pending}
+use Rattle.shelf_core.specs.Told.{HasFile, IsUnsealedIn, without_unsealed}
+use Rattle.shelf_core.specs.FileLaws.{HasFile-itself, IsUnsealedIn-with_unsealed, without-with_unsealed}
 use Rattle.cook_pack.proofs.FitLaws.{can_attach, part-fits, whole-fits, sum-fits, Tells-created}
 use Rattle.cook_pack.proofs.LeftLaws.{grown-created, left_part, left_whole, left_stopped, left_shelf, cause_shelf, cause_stopped}
 use Rattle.cook_pack.proofs.packing.pack.Goals as goal
@@ -10,10 +10,10 @@ pub write_package-requires-clause-ready : goal.write_package-requires-clause-rea
 write_package-requires-clause-ready g c = can_attach _ _ _ _ _ c.in_ok-create_package.ensures.created c.files-files.ensures.sound c.requires.fits
 
 pub write_package-requires-clause-open : goal.write_package-requires-clause-open
-write_package-requires-clause-open g c = subst (λ p. IsPending p c.args.pkg.now) (sym c.in_ok-create_package.ensures.created.unsealed) (IsPending-with_pending _ _)
+write_package-requires-clause-open g c = subst (λ p. IsUnsealedIn p c.args.pkg.now) (sym c.in_ok-create_package.ensures.created.unsealed) (IsUnsealedIn-with_unsealed _ _)
 
-pub write_package-requires-clause-target : goal.write_package-requires-clause-target
-write_package-requires-clause-target g c = subst (λ t. HasFile t c.args.pkg.now) (sym c.in_ok-create_package.ensures.created.files) (HasFile-itself _ _ _)
+pub write_package-requires-clause-to_there : goal.write_package-requires-clause-to_there
+write_package-requires-clause-to_there g c = subst (λ t. HasFile t c.args.pkg.now) (sym c.in_ok-create_package.ensures.created.files) (HasFile-itself _ _ _)
 
 pub returns-in_err-create_package-clause-left : goal.returns-in_err-create_package-clause-left
 returns-in_err-create_package-clause-left g c =
@@ -47,7 +47,7 @@ returns-in_err-bytes-clause-counts g c =
 
 pub seal-requires : goal.seal-requires
 seal-requires g c =
-    subst (λ p. IsPending p c.args.pkg.now) (sym ((c.in_ok-bytes.ensures.written 0).unsealed ∙ c.in_ok-create_package.ensures.created.unsealed)) (IsPending-with_pending _ _)
+    subst (λ p. IsUnsealedIn p c.args.pkg.now) (sym ((c.in_ok-bytes.ensures.written 0).unsealed ∙ c.in_ok-create_package.ensures.created.unsealed)) (IsUnsealedIn-with_unsealed _ _)
 
 pub returns-in_err-seal-clause-left : goal.returns-in_err-seal-clause-left
 returns-in_err-seal-clause-left g c =
@@ -77,7 +77,7 @@ returns-clause-packed g c =
     record {
       free = created.free;
       files = c.seal.ensures.files ∙ grown-created _ _ _ _ _ _ created written.files;
-      unsealed = c.in_ok-seal.ensures.sealed ∙ ap (λ p. without_pending p c.args.pkg.now) (written.unsealed ∙ created.unsealed) ∙ without-with_pending _ _ created.at_rest;
+      unsealed = c.in_ok-seal.ensures.sealed ∙ ap (λ p. without_unsealed p c.args.pkg.now) (written.unsealed ∙ created.unsealed) ∙ without-with_unsealed _ _ created.not_unsealed;
       faults = omega (arith, c.create_package.ensures.counts.faults, written.faults, c.seal.ensures.cause.faults_kept);
       starved = omega (arith, c.create_package.ensures.counts.starved, written.starved, c.seal.ensures.cause.starved_kept);
     }

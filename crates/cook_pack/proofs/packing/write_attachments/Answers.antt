@@ -10,7 +10,7 @@ use Rattle.cook_pack.proofs.PlannedLaws.{CanAttach-while_grown, files_on-while_g
 use Rattle.cook_pack.proofs.packing.write_attachments.Goals as goal
 
 pub returns-in_err-head-clause-stopped : goal.returns-in_err-head-clause-stopped
-returns-in_err-head-clause-stopped g c = on_err _ (GrewInPart-nothing _ _ _ _ c.requires.target)
+returns-in_err-head-clause-stopped g c = on_err _ (GrewInPart-nothing _ _ _ _ c.requires.to_there)
 
 pub returns-in_err-append_piece-clause-stopped : goal.returns-in_err-append_piece-clause-stopped
 returns-in_err-append_piece-clause-stopped g c =
@@ -24,10 +24,10 @@ attach_all-requires-clause-ready g c =
     let grew = c.in_ok-append_piece.ensures.ok in
     CanAttach-while_grown _ _ _ _ _ _ grew c.requires.ready
 
-pub attach_all-requires-clause-target : goal.attach_all-requires-clause-target
-attach_all-requires-clause-target g c =
+pub attach_all-requires-clause-to_there : goal.attach_all-requires-clause-to_there
+attach_all-requires-clause-to_there g c =
     let grew = c.in_ok-append_piece.ensures.ok in
-    Has-while_grown _ _ _ _ _ _ grew c.requires.target
+    Has-while_grown _ _ _ _ _ _ grew c.requires.to_there
 
 pub returns-in_err-attach_all-clause-stopped : goal.returns-in_err-attach_all-clause-stopped
 returns-in_err-attach_all-clause-stopped g c =

@@ -9,7 +9,7 @@ use Rattle.cook_pack.proofs.PlannedLaws.{CanAttach-while_grown, files_on-while_g
 use Rattle.cook_pack.proofs.packing.write_package.Goals as goal
 
 pub returns-in_err-header-clause-stopped : goal.returns-in_err-header-clause-stopped
-returns-in_err-header-clause-stopped g c = λ rate. on_err _ (GrewInPart-nothing _ _ _ _ c.requires.target)
+returns-in_err-header-clause-stopped g c = λ rate. on_err _ (GrewInPart-nothing _ _ _ _ c.requires.to_there)
 
 pub returns-in_err-append_piece-clause-stopped : goal.returns-in_err-append_piece-clause-stopped
 returns-in_err-append_piece-clause-stopped g c = λ rate.
@@ -22,10 +22,10 @@ write_attachments-requires-clause-ready g c =
     let grew = c.in_ok-append_piece.ensures.ok in
     CanAttach-while_grown _ _ _ _ _ _ grew c.requires.ready
 
-pub write_attachments-requires-clause-target : goal.write_attachments-requires-clause-target
-write_attachments-requires-clause-target g c =
+pub write_attachments-requires-clause-to_there : goal.write_attachments-requires-clause-to_there
+write_attachments-requires-clause-to_there g c =
     let grew = c.in_ok-append_piece.ensures.ok in
-    Has-while_grown _ _ _ _ _ _ grew c.requires.target
+    Has-while_grown _ _ _ _ _ _ grew c.requires.to_there
 
 pub returns-in_err-attachments-clause-stopped : goal.returns-in_err-attachments-clause-stopped
 returns-in_err-attachments-clause-stopped g c = λ rate.

@@ -1,6 +1,5 @@
-use Rattle.std.proofs.Common.{◌≡◌, ℕ, List, take, None, subst, sym, ap, ◌∙◌}
+use Rattle.std.proofs.Common.{◌≡◌, None}
 use Rattle.name_tree.specs.Held.{refusal_of}
-use Rattle.reversal.specs.SideData.{names_of}
 use Rattle.cook_restore.proofs.NameLaws.{is_taken, never_refused}
 use Rattle.cook_restore.proofs.folders.tree_of.Goals as goal
 

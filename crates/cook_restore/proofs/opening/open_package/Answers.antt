@@ -1,5 +1,5 @@
 use Rattle.std.proofs.Common.{subst, sym}
-use Rattle.cook_restore.specs.Inside.{KeepsWithin}
+use Rattle.matroska_read.specs.Inside.{KeepsWithin}
 use Rattle.cook_restore.proofs.opening.open_package.Goals as goal
 
 pub invariant_of-result-2-clause-within : goal.invariant_of-result-2-clause-within

@@ -1,5 +1,5 @@
 use Rattle.std.proofs.Common.{sym, ◌∙◌}
-use Rattle.shelf_core.proofs.FileLaws.{HasFile-length_of, length_of-some}
+use Rattle.shelf_core.specs.FileLaws.{HasFile-length_of, length_of-some}
 use Rattle.cook_restore.proofs.OpenLaws.{IsFree-length_of, missing-not_opened}
 use Rattle.cook_restore.proofs.opening.package_len.Goals as goal
 

@@ -1,6 +1,6 @@
 use Rattle.std.proofs.Common.{rules, arith}
 use Rattle.cook_top.specs.Shown.{piece_bytes}
-use Rattle.shelf_core.proofs.ReportLaws.{with_text-one_more, WrittenPartly-one_more}
+use Rattle.shelf_core.specs.ReportLaws.{with_text-one_more, WrittenPartly-one_more}
 use Rattle.cook_top.proofs.report.write_pieces.Goals as goal
 
 pub returns-in_err-write_piece-clause-err : goal.returns-in_err-write_piece-clause-err

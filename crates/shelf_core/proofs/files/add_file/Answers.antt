@@ -9,8 +9,8 @@ returns-in-Ok-clause-exists c exists = stands-has _ _ _ _ c.as_slice.ensures.val
 pub returns-in_err-copy-clause-in_the_way : goal.returns-in_err-copy-clause-in_the_way
 returns-in_err-copy-clause-in_the_way c has = belongs-free _ _ _ _ c.as_slice.ensures.value c.requires.ascending c.in-Err.ensures.free has
 
-pub returns-in_err-pending-clause-in_the_way : goal.returns-in_err-pending-clause-in_the_way
-returns-in_err-pending-clause-in_the_way c has = belongs-free _ _ _ _ c.as_slice.ensures.value c.requires.ascending c.in-Err.ensures.free has
+pub returns-in_err-added-clause-in_the_way : goal.returns-in_err-added-clause-in_the_way
+returns-in_err-added-clause-in_the_way c has = belongs-free _ _ _ _ c.as_slice.ensures.value c.requires.ascending c.in-Err.ensures.free has
 
 pub returns-in_err-map_err-clause-in_the_way : goal.returns-in_err-map_err-clause-in_the_way
 returns-in_err-map_err-clause-in_the_way c has = belongs-free _ _ _ _ c.as_slice.ensures.value c.requires.ascending c.in-Err.ensures.free has

@@ -1,10 +1,10 @@
 use Rattle.std.proofs.Common.{◌+◌, ◌≤◌, take, ap, ◌∙◌, subst, arith, rules}
 use Rattle.md5.specs.Md5.{Holds}
 use Rattle.shelf_core.specs.Told.{GrewPartly, content, grown}
-use Rattle.shelf_core.proofs.PieceLaws.{piece-while_grown, grown-more, GrewPartly-more, GrewPartly-taken}
+use Rattle.shelf_core.specs.PieceLaws.{piece-while_grown, grown-more, GrewPartly-more, GrewPartly-taken}
 use Rattle.shelf_core.specs.Writes.{GrewInPart}
 use Rattle.shelf_parts.specs.Parts.{part_on}
-use Rattle.shelf_parts.proofs.PartLaws.{piece-of_part, part-more, length-part}
+use Rattle.shelf_parts.specs.PartLaws.{piece-of_part, part-more, length-part}
 use Rattle.shelf_parts.proofs.parts.copy_part.Goals as goal
 
 pub returns-in_err-count-clause-stopped : goal.returns-in_err-count-clause-stopped

@@ -1,7 +1,7 @@
 use Rattle.std.proofs.Common.{◌≡◌, ◌+◌, ◌≤◌, length, take, drop, ◌∙◌, subst, arith, length-take}
 use Rattle.md5.specs.Md5.{Holds}
 use Rattle.shelf_core.specs.Told.{IsTold, content}
-use Rattle.shelf_parts.proofs.PartLaws.{part-more, inside-more, held-more}
+use Rattle.shelf_parts.specs.PartLaws.{part-more, inside-more, held-more}
 use Rattle.shelf_parts.proofs.parts.sum_part.Goals as goal
 
 pub loop-done-preserved : goal.loop-done-preserved

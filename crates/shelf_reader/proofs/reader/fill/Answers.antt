@@ -2,7 +2,7 @@ use Rattle.std.proofs.Common.{length, rules}
 use Rattle.shelf_reader.specs.Readings.{Answers, gives}
 use Rattle.shelf_reader.specs.Seen.{seen}
 use Rattle.shelf_reader.specs.Errors.{read_error}
-use Rattle.shelf_reader.proofs.ReadingLaws.{piece-stops}
+use Rattle.shelf_reader.specs.ReadingLaws.{piece-stops}
 use Rattle.shelf_reader.proofs.reader.fill.Goals as goal
 
 pub returns-in_err-read_piece-clause-exact : goal.returns-in_err-read_piece-clause-exact

@@ -2,7 +2,7 @@ use Rattle.std.proofs.Common.{◌≤◌, ◌-◌}
 use Rattle.shelf_reader.specs.Keeping.{known, Keeps}
 use Rattle.shelf_reader.specs.Seen.{Agree}
 use Rattle.shelf_reader.specs.Walk.{walked}
-use Rattle.shelf_reader.proofs.WalkLaws.{GoesOn}
+use Rattle.shelf_reader.specs.Walk.{GoesOn}
 use Rattle.shelf_reader.proofs.walking.walk.Given as goal
 
 abbrev pub invariant-loop-at : goal.invariant-loop-at

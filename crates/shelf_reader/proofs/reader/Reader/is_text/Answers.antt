@@ -1,6 +1,6 @@
 use Rattle.std.proofs.Common.{arith}
-use Rattle.shelf_reader.proofs.ReadingLaws.{answers-is}
-use Rattle.shelf_reader.proofs.SeenLaws.{Sees-length}
+use Rattle.shelf_reader.specs.ReadingLaws.{answers-is}
+use Rattle.shelf_reader.specs.SeenLaws.{Sees-length}
 use Rattle.shelf_reader.proofs.WindowLaws.{Sees-other_text}
 use Rattle.shelf_reader.proofs.reader.Reader.is_text.Goals as goal
 
