@@ -1,8 +1,9 @@
 -- Laws of what is known of a file's bytes. `known` stands for what is seen of them.
-use Rattle.std.proofs.Common.{◌≡◌, ℕ, ◌==◌, Bool, true, false, cond, List, [], length, take, drop, Some, None, refl, sym, ◌∙◌, subst, arith}
+use Rattle.std.proofs.Common.{◌≡◌, ℕ, ◌+◌, ◌-◌, ◌≤◌, ◌==◌, Bool, true, false, cond, List, [], length, take, drop, Some, None, refl, sym, ap, ◌∙◌, subst, arith}
 use Rattle.std.proofs.lemmas.Bool.{eqb-true}
+use Rattle.std.proofs.lemmas.List.{take-take, drop-take, drop-drop}
 use Rattle.shelf_core.specs.Told.{Told, IsTold, content}
-use Rattle.shelf_reader.specs.Seen.{Seen, seen, Sees, Agree, IsUnseen, Holds}
+use Rattle.shelf_reader.specs.Seen.{Seen, seen, Sees, Agree, IsUnseen, Holds, between}
 
 -- what one function of the bytes gives says what another gives
 pub Sees-so : {A B : Type 0} (known : Seen) (f : List ℕ → A) (x : A) (g : List ℕ → B) (y : B) → Sees known f x → ((bytes : List ℕ) → f bytes ≡ x → g bytes ≡ y) → Sees known g y
@@ -51,5 +52,21 @@ pub Holds-nothing : (known : Seen) (from : ℕ) (held : List ℕ) → held ≡ [
 unfolding Holds
 Holds-nothing None from held is = tt
 Holds-nothing (Some bytes) from held is = rw is refl
+
+held_part_of : (from place room count : ℕ) (held bytes : List ℕ) → from ≤ place → place + room ≤ from + count → held ≡ take count (drop from bytes) → take room (drop (place - from) held) ≡ take room (drop place bytes)
+held_part_of from place room count held bytes low high is =
+    let split : count ≡ (place - from) + (count - (place - from)) = omega arith in
+    let there : from + (place - from) ≡ place = omega arith in
+    ap (λ (l : List ℕ). take room (drop (place - from) l)) (is ∙ ap (λ (n : ℕ). take n (drop from bytes)) split)
+    ∙ ap (λ (l : List ℕ). take room l) (drop-take (place - from) (count - (place - from)) (drop from bytes))
+    ∙ take-take room (count - (place - from)) (drop (place - from) (drop from bytes)) (omega arith)
+    ∙ ap (λ (l : List ℕ). take room l) (drop-drop (place - from) from bytes ∙ ap (λ (n : ℕ). drop n bytes) there)
+
+-- a part of the window is the file's
+pub Sees-part : (known : Seen) (from place to : ℕ) (held part : List ℕ) → Holds known from held → from ≤ place → place ≤ to → to ≤ from + length held → part ≡ take (to - place) (drop (place - from) held) → Sees known (between place to) part
+unfolding Holds Sees
+Sees-part None from place to held part holds low before high is = tt
+Sees-part (Some bytes) from place to held part holds low before high is =
+    sym (is ∙ held_part_of from place (to - place) (length held) held bytes low (omega arith) holds)
 
 pub ruleset seen_laws = (Holds-nothing, Sees-length)
