@@ -5,6 +5,7 @@ use Rattle.std.proofs.lemmas.Int.{ints}
 use Rattle.std.proofs.lemmas.List.{get_or_past}
 use Rattle.std.proofs.lemmas.Nat.{pow_pos}
 use Rattle.flac_predict.specs.Samples.{sample_at, IsInside, AreInside}
+use Rattle.wav_chunks.specs.Samples as waves
 
 -- 0 is inside any bits
 nothing_is_inside : (bits : ℕ) → IsInside bits (pos 0)
@@ -20,3 +21,9 @@ all_are_inside bits place numbers end each = record {
     | inr l ↦ let p : sample_at numbers k ≡ pos 0 = get_or_past numbers k (pos 0) (omega (arith, end, l)) in rw p (nothing_is_inside bits)
   ];
 }
+
+-- a codec's samples inside their bits are a wave's
+pub inside-wave : (bits : ℕ) (samples : List ℤ) → AreInside bits samples → waves.AreInside bits samples
+inside-wave bits samples are = record { each = λ k. record { low = (are.each k).low; high = (are.each k).high } }
+
+pub ruleset inside_laws = (inside-wave)

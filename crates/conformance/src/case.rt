@@ -1,120 +1,92 @@
 // A line as a case: which section it is of, and its answer.
 
-use crate::bits::BitsCase;
-use crate::coder::CoderCase;
-use crate::dpx::DpxCase;
-use crate::ebml::EbmlCase;
-use crate::flac::FlacCase;
-use crate::frames::FrameCase;
-use crate::names::NamesCase;
-use crate::outline::OutlineCase;
-use crate::pack::PackCase;
-use crate::params::ParamsCase;
-use crate::predict::PredictCase;
-use crate::restore::RestoreCase;
-use crate::runs::RunsCase;
-use crate::side::SideCase;
-use crate::slices::SliceCase;
 use crate::stop::Stop;
-use crate::words::WordsCase;
+use crate::{
+    bits, coder, dpx, ebml, flac, frames, names, outline, pack, params, predict, restore, runs,
+    side, slices, waves, words,
+};
 use std::alloc::{AllocError, Global};
 use std::marker::Sync;
 use std::thread::Threads;
 
-/// A call, and what it is made on.
-#[derive(Debug, Drop)]
-enum Case {
-    Bits(BitsCase),
-    Coder(CoderCase),
-    Params(ParamsCase),
-    Dpx(DpxCase),
-    Runs(RunsCase),
-    Names(NamesCase),
-    Slice(SliceCase),
-    Frame(FrameCase),
-    Predict(PredictCase),
-    Flac(FlacCase),
-    Ebml(EbmlCase),
-    Side(SideCase),
-    Outline(OutlineCase),
-    Pack(PackCase),
-    Restore(RestoreCase),
-    Words(WordsCase),
+/// A section: calls that are answered in one module.
+#[derive(Clone, Copy)]
+enum Section {
+    Bits,
+    Coder,
+    Params,
+    Dpx,
+    Runs,
+    Names,
+    Slices,
+    Frames,
+    Predict,
+    Flac,
+    Ebml,
+    Side,
+    Waves,
+    Outline,
+    Pack,
+    Restore,
+    Words,
 }
 
-// The case that the words say.
-fn read(alloc: Global, words: &[&str]) -> Result<Case, Stop> {
-    if let Some(case) = BitsCase::read(alloc, words)? {
-        return Ok(Case::Bits(case));
+const SECTIONS: [Section; 17] = [
+    Section::Bits,
+    Section::Coder,
+    Section::Params,
+    Section::Dpx,
+    Section::Runs,
+    Section::Names,
+    Section::Slices,
+    Section::Frames,
+    Section::Predict,
+    Section::Flac,
+    Section::Ebml,
+    Section::Side,
+    Section::Waves,
+    Section::Outline,
+    Section::Pack,
+    Section::Restore,
+    Section::Words,
+];
+
+// The answer to a case of the section, if the words are one.
+fn answer_in<R: Threads + Sync>(
+    section: Section,
+    rt: &R,
+    alloc: Global,
+    words: &[&str],
+) -> Option<Result<String, Stop>> {
+    match section {
+        Section::Bits => bits::answer_to(alloc, words),
+        Section::Coder => coder::answer_to(alloc, words),
+        Section::Params => params::answer_to(alloc, words),
+        Section::Dpx => dpx::answer_to(alloc, words),
+        Section::Runs => runs::answer_to(alloc, words),
+        Section::Names => names::answer_to(alloc, words),
+        Section::Slices => slices::answer_to(alloc, words),
+        Section::Frames => frames::answer_to(rt, alloc, words),
+        Section::Predict => predict::answer_to(alloc, words),
+        Section::Flac => flac::answer_to(alloc, words),
+        Section::Ebml => ebml::answer_to(alloc, words),
+        Section::Side => side::answer_to(alloc, words),
+        Section::Waves => waves::answer_to(alloc, words),
+        Section::Outline => outline::answer_to(alloc, words),
+        Section::Pack => pack::answer_to(alloc, words),
+        Section::Restore => restore::answer_to(alloc, words),
+        Section::Words => words::answer_to(alloc, words),
     }
-    if let Some(case) = CoderCase::read(alloc, words)? {
-        return Ok(Case::Coder(case));
-    }
-    if let Some(case) = ParamsCase::read(alloc, words)? {
-        return Ok(Case::Params(case));
-    }
-    if let Some(case) = DpxCase::read(alloc, words)? {
-        return Ok(Case::Dpx(case));
-    }
-    if let Some(case) = RunsCase::read(alloc, words)? {
-        return Ok(Case::Runs(case));
-    }
-    if let Some(case) = NamesCase::read(alloc, words)? {
-        return Ok(Case::Names(case));
-    }
-    if let Some(case) = SliceCase::read(alloc, words)? {
-        return Ok(Case::Slice(case));
-    }
-    if let Some(case) = FrameCase::read(alloc, words)? {
-        return Ok(Case::Frame(case));
-    }
-    if let Some(case) = PredictCase::read(alloc, words)? {
-        return Ok(Case::Predict(case));
-    }
-    if let Some(case) = FlacCase::read(alloc, words)? {
-        return Ok(Case::Flac(case));
-    }
-    if let Some(case) = EbmlCase::read(alloc, words)? {
-        return Ok(Case::Ebml(case));
-    }
-    if let Some(case) = SideCase::read(alloc, words)? {
-        return Ok(Case::Side(case));
-    }
-    if let Some(case) = OutlineCase::read(alloc, words)? {
-        return Ok(Case::Outline(case));
-    }
-    if let Some(case) = PackCase::read(alloc, words)? {
-        return Ok(Case::Pack(case));
-    }
-    if let Some(case) = RestoreCase::read(alloc, words)? {
-        return Ok(Case::Restore(case));
-    }
-    if let Some(case) = WordsCase::read(alloc, words)? {
-        return Ok(Case::Words(case));
+}
+
+// The answer to the case that the words say.
+fn answer<R: Threads + Sync>(rt: &R, alloc: Global, words: &[&str]) -> Result<String, Stop> {
+    for section in SECTIONS {
+        if let Some(answer) = answer_in(section, rt, alloc, words) {
+            return answer;
+        }
     }
     Err(Stop::Unreadable)
-}
-
-fn answer<R: Threads + Sync>(rt: &R, alloc: Global, line: &str) -> Result<String, Stop> {
-    let words: Vec<&str> = line.split(' ').collect(alloc)?;
-    match read(alloc, words.as_slice())? {
-        Case::Bits(case) => case.answer(alloc),
-        Case::Coder(case) => case.answer(alloc),
-        Case::Params(case) => case.answer(alloc),
-        Case::Dpx(case) => case.answer(alloc),
-        Case::Runs(case) => case.answer(alloc),
-        Case::Names(case) => case.answer(alloc),
-        Case::Slice(case) => case.answer(alloc),
-        Case::Frame(case) => case.answer(rt, alloc),
-        Case::Predict(case) => case.answer(alloc),
-        Case::Flac(case) => case.answer(alloc),
-        Case::Ebml(case) => case.answer(alloc),
-        Case::Side(case) => case.answer(alloc),
-        Case::Outline(case) => case.answer(alloc),
-        Case::Pack(case) => case.answer(alloc),
-        Case::Restore(case) => case.answer(alloc),
-        Case::Words(case) => case.answer(alloc),
-    }
 }
 
 /// The answer to a line. A comment is its own answer.
@@ -126,7 +98,8 @@ pub fn answer_of<R: Threads + Sync>(
     if line.starts_with('#') {
         return String::from_str(alloc, line);
     }
-    match answer(rt, alloc, line) {
+    let words: Vec<&str> = line.split(' ').collect(alloc)?;
+    match answer(rt, alloc, words.as_slice()) {
         Ok(answer) => Ok(answer),
         Err(stop) => format!(in alloc; "{stop}"),
     }

@@ -8,49 +8,14 @@ use crate::{answer, parse};
 use range_coder::{Decoder, Encoder, States, Table, get_symbol, put_symbol};
 use std::alloc::Global;
 
-/// A case of range coding: numbers that are coded on one set of fresh states by the default table.
-#[derive(Debug, Drop)]
-pub enum CoderCase {
-    Symbols {
-        signed: bool,
-        values: Vec<i32>,
-    },
-    Numbers {
-        signed: bool,
-        count: u32,
-        coded: Vec<u8>,
-    },
-}
-
-impl CoderCase {
-    /// The case that the words say, if it is one of these.
-    pub fn read(alloc: Global, words: &[&str]) -> Result<Option<CoderCase>, Stop> {
-        let case = match words {
-            ["symbols", signed, values] => CoderCase::Symbols {
-                signed: parse::switch(signed)?,
-                values: parse::numbers(alloc, values)?,
-            },
-            ["numbers", signed, count, coded] => CoderCase::Numbers {
-                signed: parse::switch(signed)?,
-                count: parse::number(count)?,
-                coded: parse::bytes(alloc, coded)?,
-            },
-            _ => return Ok(None),
-        };
-        Ok(Some(case))
-    }
-
-    /// Makes the calls and tells their answer.
-    pub fn answer(&self, alloc: Global) -> Result<String, Stop> {
-        match self {
-            CoderCase::Symbols { signed, values } => symbols(alloc, *signed, values.as_slice()),
-            CoderCase::Numbers {
-                signed,
-                count,
-                coded,
-            } => numbers(alloc, *signed, *count, coded.as_slice()),
-        }
-    }
+/// The answer to a case of range coding, if the words are one: numbers that are coded on one set of fresh states by the
+/// default table.
+pub fn answer_to(alloc: Global, words: &[&str]) -> Option<Result<String, Stop>> {
+    Some(match words {
+        ["symbols", signed, values] => symbols(alloc, signed, values),
+        ["numbers", signed, count, coded] => numbers(alloc, signed, count, coded),
+        _ => return None,
+    })
 }
 
 // Whether the number can be coded.
@@ -60,11 +25,13 @@ fn is_codable(value: i32, signed: bool) -> bool
     value != i32::MIN && (signed || value >= 0)
 }
 
-fn symbols(alloc: Global, signed: bool, values: &[i32]) -> Result<String, Stop> {
+fn symbols(alloc: Global, signed: &str, values: &str) -> Result<String, Stop> {
+    let signed = parse::switch(signed)?;
+    let values: Vec<i32> = parse::numbers(alloc, values)?;
     let table = Table::default_table();
     let mut states = States::fresh();
     let mut encoder = Encoder::new(alloc);
-    for value in values {
+    for value in values.as_slice() {
         if !is_codable(*value, signed) {
             return Err(Stop::OutOfRange);
         }
@@ -73,8 +40,10 @@ fn symbols(alloc: Global, signed: bool, values: &[i32]) -> Result<String, Stop> 
     answer::bytes(alloc, encoder.finish()?.as_slice())
 }
 
-fn numbers(alloc: Global, signed: bool, count: u32, coded: &[u8]) -> Result<String, Stop> {
-    let Some(mut decoder) = Decoder::new(coded) else {
+fn numbers(alloc: Global, signed: &str, count: &str, coded: &str) -> Result<String, Stop> {
+    let (signed, count) = (parse::switch(signed)?, parse::number(count)?);
+    let coded = parse::bytes(alloc, coded)?;
+    let Some(mut decoder) = Decoder::new(coded.as_slice()) else {
         return Ok(String::from_str(alloc, "start")?);
     };
     let table = Table::default_table();

@@ -11,79 +11,18 @@ use dpx_header::{Layout, image_len, line_len, pad_len, sample_len};
 use dpx_packing::{pad_fill, pad_record, pads_fit};
 use std::alloc::Global;
 
-/// A case of frames: a layout that is read, an image that is taken apart or put together, pads and their forms.
-#[derive(Debug, Drop)]
-pub enum DpxCase {
-    Header {
-        file_len: u64,
-        head: Vec<u8>,
-    },
-    Parts {
-        layout: Layout,
-        image: Vec<u8>,
-    },
-    Image {
-        layout: Layout,
-        samples: Vec<u16>,
-        pads: Vec<u8>,
-    },
-    Fits {
-        layout: Layout,
-        pads: Vec<u8>,
-    },
-    Pads(Vec<u8>),
-    Fill {
-        count: u32,
-        form: Vec<u8>,
-    },
-}
-
-impl DpxCase {
-    /// The case that the words say, if it is one of these.
-    pub fn read(alloc: Global, words: &[&str]) -> Result<Option<DpxCase>, Stop> {
-        let case = match words {
-            ["layout", file_len, head] => DpxCase::Header {
-                file_len: parse::number(file_len)?,
-                head: parse::bytes(alloc, head)?,
-            },
-            ["parts", layout @ .., image] => DpxCase::Parts {
-                layout: layout_read(layout)?,
-                image: parse::bytes(alloc, image)?,
-            },
-            ["image", layout @ .., samples, pads] => DpxCase::Image {
-                layout: layout_read(layout)?,
-                samples: parse::numbers(alloc, samples)?,
-                pads: parse::numbers(alloc, pads)?,
-            },
-            ["fits", layout @ .., pads] => DpxCase::Fits {
-                layout: layout_read(layout)?,
-                pads: parse::numbers(alloc, pads)?,
-            },
-            ["pads", pads] => DpxCase::Pads(parse::numbers(alloc, pads)?),
-            ["fill", count, form] => DpxCase::Fill {
-                count: parse::number(count)?,
-                form: parse::bytes(alloc, form)?,
-            },
-            _ => return Ok(None),
-        };
-        Ok(Some(case))
-    }
-
-    /// Makes the call and tells its answer.
-    pub fn answer(&self, alloc: Global) -> Result<String, Stop> {
-        match self {
-            DpxCase::Header { file_len, head } => header(alloc, *file_len, head.as_slice()),
-            DpxCase::Parts { layout, image } => parts(alloc, layout, image.as_slice()),
-            DpxCase::Image {
-                layout,
-                samples,
-                pads,
-            } => image_of(alloc, layout, samples.as_slice(), pads.as_slice()),
-            DpxCase::Fits { layout, pads } => fit(alloc, layout, pads.as_slice()),
-            DpxCase::Pads(pads) => form_of(alloc, pads.as_slice()),
-            DpxCase::Fill { count, form } => filled(alloc, *count, form.as_slice()),
-        }
-    }
+/// The answer to a case of frames, if the words are one: a layout that is read, an image that is taken apart or put together,
+/// pads and their forms.
+pub fn answer_to(alloc: Global, words: &[&str]) -> Option<Result<String, Stop>> {
+    Some(match words {
+        ["layout", file_len, head] => layout_of(alloc, file_len, head),
+        ["parts", layout @ .., image] => parts(alloc, layout, image),
+        ["image", layout @ .., samples, pads] => image_of(alloc, layout, samples, pads),
+        ["fits", layout @ .., pads] => fit(alloc, layout, pads),
+        ["pads", pads] => form_of(alloc, pads),
+        ["fill", count, form] => filled(alloc, count, form),
+        _ => return None,
+    })
 }
 
 // The six words of a layout.
@@ -101,11 +40,13 @@ fn layout_read(words: &[&str]) -> Result<Layout, Stop> {
     })
 }
 
-fn header(alloc: Global, file_len: u64, head: &[u8]) -> Result<String, Stop> {
+fn layout_of(alloc: Global, file_len: &str, head: &str) -> Result<String, Stop> {
+    let file_len: u64 = parse::number(file_len)?;
+    let head = parse::bytes(alloc, head)?;
     if (head.len() as u64) < file_len.min(1664) {
         return Err(Stop::OutOfRange);
     }
-    match dpx_header::layout(head, file_len) {
+    match dpx_header::layout(head.as_slice(), file_len) {
         Ok(layout) => layout_told(alloc, &layout),
         Err(why) => Ok(format!(in alloc; "{why}")?),
     }
@@ -144,19 +85,22 @@ fn samples_fit(layout: &Layout, samples: &[u16]) -> bool
     samples.iter().all(|sample| u32::from(*sample) < limit)
 }
 
-fn parts(alloc: Global, layout: &Layout, image: &[u8]) -> Result<String, Stop> {
-    if !is_well_formed(layout) || image.len() as u64 != image_len(layout) {
+fn parts(alloc: Global, layout: &[&str], image: &str) -> Result<String, Stop> {
+    let layout = layout_read(layout)?;
+    let image = parse::bytes(alloc, image)?;
+    if !is_well_formed(&layout) || image.len() as u64 != image_len(&layout) {
         return Err(Stop::OutOfRange);
     }
-    let mut samples = vec![in alloc; 0u16; sample_len(layout)]?;
-    let mut pads = vec![in alloc; 0u8; pad_len(layout)]?;
-    dpx_packing::split(layout, image, &mut samples, &mut pads);
+    let mut samples = vec![in alloc; 0u16; sample_len(&layout)]?;
+    let mut pads = vec![in alloc; 0u8; pad_len(&layout)]?;
+    dpx_packing::split(&layout, image.as_slice(), &mut samples, &mut pads);
     let samples = answer::samples(alloc, samples.as_slice())?;
     let pads = answer::pads(alloc, pads.as_slice())?;
     Ok(format!(in alloc; "{samples} {pads}")?)
 }
 
-fn image_of(alloc: Global, layout: &Layout, samples: &[u16], pads: &[u8]) -> Result<String, Stop> {
+// The image of samples and pads.
+fn joined(alloc: Global, layout: &Layout, samples: &[u16], pads: &[u8]) -> Result<Vec<u8>, Stop> {
     if !is_well_formed(layout) {
         return Err(Stop::OutOfRange);
     }
@@ -168,27 +112,40 @@ fn image_of(alloc: Global, layout: &Layout, samples: &[u16], pads: &[u8]) -> Res
     }
     let mut image = vec![in alloc; 0u8; image_len(layout) as usize]?;
     dpx_packing::join(layout, samples, pads, &mut image);
+    Ok(image)
+}
+
+fn image_of(alloc: Global, layout: &[&str], samples: &str, pads: &str) -> Result<String, Stop> {
+    let layout = layout_read(layout)?;
+    let samples = parse::numbers(alloc, samples)?;
+    let pads = parse::numbers(alloc, pads)?;
+    let image = joined(alloc, &layout, samples.as_slice(), pads.as_slice())?;
     answer::bytes(alloc, image.as_slice())
 }
 
-fn fit(alloc: Global, layout: &Layout, pads: &[u8]) -> Result<String, Stop> {
-    if !is_well_formed(layout) || pads.len() != pad_len(layout) {
+fn fit(alloc: Global, layout: &[&str], pads: &str) -> Result<String, Stop> {
+    let layout = layout_read(layout)?;
+    let pads: Vec<u8> = parse::numbers(alloc, pads)?;
+    if !is_well_formed(&layout) || pads.len() != pad_len(&layout) {
         return Err(Stop::OutOfRange);
     }
-    let fit = u8::from(pads_fit(layout, pads));
+    let fit = u8::from(pads_fit(&layout, pads.as_slice()));
     Ok(format!(in alloc; "{fit}")?)
 }
 
-fn form_of(alloc: Global, pads: &[u8]) -> Result<String, Stop> {
+fn form_of(alloc: Global, pads: &str) -> Result<String, Stop> {
+    let pads: Vec<u8> = parse::numbers(alloc, pads)?;
     if pads.len() > u32::MAX as usize {
         return Err(Stop::OutOfRange);
     }
-    answer::bytes(alloc, pad_record(alloc, pads)?.as_slice())
+    answer::bytes(alloc, pad_record(alloc, pads.as_slice())?.as_slice())
 }
 
-fn filled(alloc: Global, count: u32, form: &[u8]) -> Result<String, Stop> {
+fn filled(alloc: Global, count: &str, form: &str) -> Result<String, Stop> {
+    let count: u32 = parse::number(count)?;
+    let form = parse::bytes(alloc, form)?;
     let mut pads = vec![in alloc; 0u8; count as usize]?;
-    match pad_fill(form, &mut pads) {
+    match pad_fill(form.as_slice(), &mut pads) {
         Ok(()) => answer::pads(alloc, pads.as_slice()),
         Err(_) => Ok(String::from_str(alloc, "bad")?),
     }

@@ -9,61 +9,19 @@ use cook_bits::Bytes;
 use ebml_core::{Head, Size, head, head_len, put_bytes, put_head, put_uint, rate_bytes};
 use std::alloc::Global;
 
-/// A case of elements: what is written, and what bytes begin with.
-#[derive(Debug, Drop)]
-pub enum EbmlCase {
-    PutHead { id: u32, size: u64 },
-    HeadLen { id: u32, size: u64 },
-    PutUint { id: u32, value: u64 },
-    PutBytes { id: u32, content: Vec<u8> },
-    Rate(u32),
-    ReadId(Vec<u8>),
-    ReadSize(Vec<u8>),
-    ReadHead(Vec<u8>),
-}
-
-impl EbmlCase {
-    /// The case that the words say, if it is one of these.
-    pub fn read(alloc: Global, words: &[&str]) -> Result<Option<EbmlCase>, Stop> {
-        let case = match words {
-            ["put_head", id, size] => EbmlCase::PutHead {
-                id: identifier(alloc, id)?,
-                size: parse::number(size)?,
-            },
-            ["head_len", id, size] => EbmlCase::HeadLen {
-                id: identifier(alloc, id)?,
-                size: parse::number(size)?,
-            },
-            ["put_uint", id, value] => EbmlCase::PutUint {
-                id: identifier(alloc, id)?,
-                value: parse::number(value)?,
-            },
-            ["put_bytes", id, content] => EbmlCase::PutBytes {
-                id: identifier(alloc, id)?,
-                content: parse::bytes(alloc, content)?,
-            },
-            ["rate_bytes", rate] => EbmlCase::Rate(parse::number(rate)?),
-            ["read_id", list] => EbmlCase::ReadId(parse::bytes(alloc, list)?),
-            ["read_size", list] => EbmlCase::ReadSize(parse::bytes(alloc, list)?),
-            ["read_head", list] => EbmlCase::ReadHead(parse::bytes(alloc, list)?),
-            _ => return Ok(None),
-        };
-        Ok(Some(case))
-    }
-
-    /// Makes the call and tells its answer.
-    pub fn answer(&self, alloc: Global) -> Result<String, Stop> {
-        match self {
-            EbmlCase::PutHead { id, size } => head_put(alloc, *id, *size),
-            EbmlCase::HeadLen { id, size } => len_told(alloc, *id, *size),
-            EbmlCase::PutUint { id, value } => uint_put(alloc, *id, *value),
-            EbmlCase::PutBytes { id, content } => bytes_put(alloc, *id, content.as_slice()),
-            EbmlCase::Rate(rate) => rate_told(alloc, *rate),
-            EbmlCase::ReadId(list) => id_read(alloc, list.as_slice()),
-            EbmlCase::ReadSize(list) => size_read(alloc, list.as_slice()),
-            EbmlCase::ReadHead(list) => head_read(alloc, list.as_slice()),
-        }
-    }
+/// The answer to a case of elements, if the words are one.
+pub fn answer_to(alloc: Global, words: &[&str]) -> Option<Result<String, Stop>> {
+    Some(match words {
+        ["put_head", id, size] => head_put(alloc, id, size),
+        ["head_len", id, size] => len_told(alloc, id, size),
+        ["put_uint", id, value] => uint_put(alloc, id, value),
+        ["put_bytes", id, content] => bytes_put(alloc, id, content),
+        ["rate_bytes", rate] => rate_told(alloc, rate),
+        ["read_id", list] => id_read(alloc, list),
+        ["read_size", list] => size_read(alloc, list),
+        ["read_head", list] => head_read(alloc, list),
+        _ => return None,
+    })
 }
 
 // The identifier whose bytes a word spells, as a number.
@@ -91,7 +49,8 @@ fn is_known(size: u64) -> bool
     size < (1 << 56) - 1
 }
 
-fn head_put(alloc: Global, id: u32, size: u64) -> Result<String, Stop> {
+fn head_put(alloc: Global, id: &str, size: &str) -> Result<String, Stop> {
+    let (id, size) = (identifier(alloc, id)?, parse::number(size)?);
     if !is_identifier(id) || !is_known(size) {
         return Err(Stop::OutOfRange);
     }
@@ -100,7 +59,8 @@ fn head_put(alloc: Global, id: u32, size: u64) -> Result<String, Stop> {
     answer::bytes(alloc, out.as_slice())
 }
 
-fn len_told(alloc: Global, id: u32, size: u64) -> Result<String, Stop> {
+fn len_told(alloc: Global, id: &str, size: &str) -> Result<String, Stop> {
+    let (id, size) = (identifier(alloc, id)?, parse::number(size)?);
     if !is_identifier(id) || !is_known(size) {
         return Err(Stop::OutOfRange);
     }
@@ -108,7 +68,8 @@ fn len_told(alloc: Global, id: u32, size: u64) -> Result<String, Stop> {
     Ok(format!(in alloc; "{len}")?)
 }
 
-fn uint_put(alloc: Global, id: u32, value: u64) -> Result<String, Stop> {
+fn uint_put(alloc: Global, id: &str, value: &str) -> Result<String, Stop> {
+    let (id, value) = (identifier(alloc, id)?, parse::number(value)?);
     if !is_identifier(id) {
         return Err(Stop::OutOfRange);
     }
@@ -117,16 +78,18 @@ fn uint_put(alloc: Global, id: u32, value: u64) -> Result<String, Stop> {
     answer::bytes(alloc, out.as_slice())
 }
 
-fn bytes_put(alloc: Global, id: u32, content: &[u8]) -> Result<String, Stop> {
+fn bytes_put(alloc: Global, id: &str, content: &str) -> Result<String, Stop> {
+    let (id, content) = (identifier(alloc, id)?, parse::bytes(alloc, content)?);
     if !is_identifier(id) || !is_known(content.len() as u64) {
         return Err(Stop::OutOfRange);
     }
     let mut out = Bytes::new(alloc);
-    put_bytes(&mut out, id, content)?;
+    put_bytes(&mut out, id, content.as_slice())?;
     answer::bytes(alloc, out.as_slice())
 }
 
-fn rate_told(alloc: Global, rate: u32) -> Result<String, Stop> {
+fn rate_told(alloc: Global, rate: &str) -> Result<String, Stop> {
+    let rate = parse::number(rate)?;
     if rate == 0 {
         return Err(Stop::OutOfRange);
     }
@@ -137,8 +100,9 @@ fn none(alloc: Global) -> Result<String, Stop> {
     Ok(String::from_str(alloc, "none")?)
 }
 
-fn id_read(alloc: Global, list: &[u8]) -> Result<String, Stop> {
-    match ebml_core::read_id(list) {
+fn id_read(alloc: Global, list: &str) -> Result<String, Stop> {
+    let list = parse::bytes(alloc, list)?;
+    match ebml_core::read_id(list.as_slice()) {
         Some((id, len)) => Ok(format!(in alloc; "{id:X} {len}")?),
         None => none(alloc),
     }
@@ -151,16 +115,18 @@ fn size_told(alloc: Global, size: Size) -> Result<String, Stop> {
     }
 }
 
-fn size_read(alloc: Global, list: &[u8]) -> Result<String, Stop> {
-    let Some((size, len)) = ebml_core::read_size(list) else {
+fn size_read(alloc: Global, list: &str) -> Result<String, Stop> {
+    let list = parse::bytes(alloc, list)?;
+    let Some((size, len)) = ebml_core::read_size(list.as_slice()) else {
         return none(alloc);
     };
     let size = size_told(alloc, size)?;
     Ok(format!(in alloc; "{size} {len}")?)
 }
 
-fn head_read(alloc: Global, list: &[u8]) -> Result<String, Stop> {
-    let Some(Head { id, size, len }) = head(list) else {
+fn head_read(alloc: Global, list: &str) -> Result<String, Stop> {
+    let list = parse::bytes(alloc, list)?;
+    let Some(Head { id, size, len }) = head(list.as_slice()) else {
         return none(alloc);
     };
     let size = size_told(alloc, size)?;

@@ -1,7 +1,7 @@
 // Sound: the parameters of a stream, and its frames.
 
 ghost use Rattle.std.specs.Prelude.{◌≡◌, ◌≤◌, IsTrue, IfOk, length};
-ghost use Rattle.flac_frame.specs.StreamInfo.{IsWritable, is_depth};
+ghost use Rattle.flac_frame.specs.StreamInfo.{IsWritable, IsReadable, is_depth};
 ghost use Rattle.flac_frame.specs.Writing.{AreAllInside};
 
 use crate::predict::are_inside;
@@ -10,66 +10,16 @@ use crate::{answer, parse};
 use flac_frame::{Block, FlacWhy, StreamInfo, decode, encode};
 use std::alloc::Global;
 
-/// A case of sound.
-#[derive(Debug, Drop)]
-pub enum FlacCase {
-    InfoWrite(StreamInfo),
-    InfoRead([u8; 34]),
-    Block {
-        capacity: Option<u32>,
-        info: [u8; 34],
-        bytes: Vec<u8>,
-    },
-    Frame {
-        info: StreamInfo,
-        number: u32,
-        channels: Vec<Vec<i32>>,
-    },
-}
-
-impl FlacCase {
-    /// The case that the words say, if it is one of these.
-    pub fn read(alloc: Global, words: &[&str]) -> Result<Option<FlacCase>, Stop> {
-        let case = match words {
-            ["info_write", fields @ ..] => FlacCase::InfoWrite(stream(alloc, fields)?),
-            ["info_read", info] => FlacCase::InfoRead(info_bytes(alloc, info)?),
-            ["block", info, bytes] => FlacCase::Block {
-                capacity: None,
-                info: info_bytes(alloc, info)?,
-                bytes: parse::bytes(alloc, bytes)?,
-            },
-            ["block_within", capacity, info, bytes] => FlacCase::Block {
-                capacity: Some(parse::number(capacity)?),
-                info: info_bytes(alloc, info)?,
-                bytes: parse::bytes(alloc, bytes)?,
-            },
-            ["flac", rate, channels, bits, total, number, samples @ ..] => FlacCase::Frame {
-                info: stream_of(rate, channels, bits, total)?,
-                number: parse::number(number)?,
-                channels: channels_of(alloc, samples)?,
-            },
-            _ => return Ok(None),
-        };
-        Ok(Some(case))
-    }
-
-    /// Makes the call and tells its answer.
-    pub fn answer(&self, alloc: Global) -> Result<String, Stop> {
-        match self {
-            FlacCase::InfoWrite(info) => info_write(alloc, info),
-            FlacCase::InfoRead(bytes) => info_read(alloc, bytes),
-            FlacCase::Block {
-                capacity,
-                info,
-                bytes,
-            } => block(alloc, *capacity, info, bytes.as_slice()),
-            FlacCase::Frame {
-                info,
-                number,
-                channels,
-            } => frame(alloc, info, *number, channels.as_slice()),
-        }
-    }
+/// The answer to a case of sound, if the words are one.
+pub fn answer_to(alloc: Global, words: &[&str]) -> Option<Result<String, Stop>> {
+    Some(match words {
+        ["info_write", fields @ ..] => info_write(alloc, fields),
+        ["info_read", info] => info_read(alloc, info),
+        ["block", info, bytes] => block(alloc, info, bytes),
+        ["block_within", capacity, info, bytes] => block_within(alloc, capacity, info, bytes),
+        ["flac", words @ ..] => frame(alloc, words),
+        _ => return None,
+    })
 }
 
 // The parameters of a stream that is written in blocks of 4,096.
@@ -161,8 +111,9 @@ fn is_writable(info: StreamInfo) -> bool
     is_depth(info.bits)
 }
 
-fn info_write(alloc: Global, info: &StreamInfo) -> Result<String, Stop> {
-    if !is_writable(*info) {
+fn info_write(alloc: Global, fields: &[&str]) -> Result<String, Stop> {
+    let info = stream(alloc, fields)?;
+    if !is_writable(info) {
         return Err(Stop::OutOfRange);
     }
     let mut out = [0; 34];
@@ -170,10 +121,14 @@ fn info_write(alloc: Global, info: &StreamInfo) -> Result<String, Stop> {
     answer::bytes(alloc, &out)
 }
 
-fn info_read(alloc: Global, bytes: &[u8; 34]) -> Result<String, Stop> {
-    let Ok(info) = StreamInfo::read(bytes) else {
-        return Ok(String::from_str(alloc, "bad")?);
-    };
+fn info_read(alloc: Global, word: &str) -> Result<String, Stop> {
+    match StreamInfo::read(&info_bytes(alloc, word)?) {
+        Ok(info) => info_told(alloc, &info),
+        Err(_) => Ok(String::from_str(alloc, "bad")?),
+    }
+}
+
+fn info_told(alloc: Global, info: &StreamInfo) -> Result<String, Stop> {
     let StreamInfo {
         min_block,
         max_block,
@@ -185,7 +140,7 @@ fn info_read(alloc: Global, bytes: &[u8; 34]) -> Result<String, Stop> {
         total,
         md5,
     } = info;
-    let sum = answer::bytes(alloc, &md5)?;
+    let sum = answer::bytes(alloc, md5)?;
     Ok(format!(in alloc;
         "{min_block} {max_block} {min_frame} {max_frame} {rate} {channels} {bits} {total} {sum}"
     )?)
@@ -205,22 +160,45 @@ fn name(why: FlacWhy) -> &'static str {
     }
 }
 
-fn block(
-    alloc: Global,
-    capacity: Option<u32>,
-    info: &[u8; 34],
-    bytes: &[u8],
-) -> Result<String, Stop> {
-    let Ok(info) = StreamInfo::read(info) else {
-        return Err(Stop::OutOfRange);
-    };
-    let capacity = capacity.unwrap_or(u32::from(info.max_block));
-    let mut block = Block::new(alloc, info.channels, capacity)?;
-    if let Err(why) = decode(bytes, &info, &mut block) {
-        return Ok(String::from_str(alloc, name(why))?);
+// The stream whose bytes a word spells.
+fn stream_read(alloc: Global, word: &str) -> Result<StreamInfo, Stop>
+    ensures { IfOk result IsReadable }
+{
+    match StreamInfo::read(&info_bytes(alloc, word)?) {
+        Ok(info) => Ok(info),
+        Err(_) => Err(Stop::OutOfRange),
     }
+}
+
+fn block(alloc: Global, info: &str, bytes: &str) -> Result<String, Stop> {
+    let bytes = parse::bytes(alloc, bytes)?;
+    let info = stream_read(alloc, info)?;
+    decoded(alloc, &info, u32::from(info.max_block), bytes.as_slice())
+}
+
+fn block_within(alloc: Global, capacity: &str, info: &str, bytes: &str) -> Result<String, Stop> {
+    let capacity = parse::number(capacity)?;
+    let bytes = parse::bytes(alloc, bytes)?;
+    let info = stream_read(alloc, info)?;
+    decoded(alloc, &info, capacity, bytes.as_slice())
+}
+
+// What the bytes are decoded to, in a block that has room for `capacity` samples of each channel.
+fn decoded(alloc: Global, info: &StreamInfo, capacity: u32, bytes: &[u8]) -> Result<String, Stop>
+    requires { IsReadable info.now }
+{
+    let mut block = Block::new(alloc, info.channels, capacity)?;
+    match decode(bytes, info, &mut block) {
+        Ok(()) => block_told(alloc, &block, info.channels),
+        Err(why) => Ok(String::from_str(alloc, name(why))?),
+    }
+}
+
+fn block_told(alloc: Global, block: &Block, channels: u8) -> Result<String, Stop>
+    requires { block.now.channels ≡ channels }
+{
     let mut text = String::new(alloc);
-    for k in 0..info.channels {
+    for k in 0..channels {
         if k > 0 {
             text.push(' ')?;
         }
@@ -267,7 +245,17 @@ fn are_all_inside(block: &Block, channels: u8, bits: u8) -> bool
     true
 }
 
-fn frame(
+fn frame(alloc: Global, words: &[&str]) -> Result<String, Stop> {
+    let [rate, channels, bits, total, number, samples @ ..] = words else {
+        return Err(Stop::Unreadable);
+    };
+    let info = stream_of(rate, channels, bits, total)?;
+    let number = parse::number(number)?;
+    let channels = channels_of(alloc, samples)?;
+    encoded(alloc, &info, number, channels.as_slice())
+}
+
+fn encoded(
     alloc: Global,
     info: &StreamInfo,
     number: u32,

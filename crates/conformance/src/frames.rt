@@ -1,123 +1,42 @@
 // Frames of FFV1.
 
 ghost use Rattle.std.specs.Prelude.{◌≡◌, IsTrue, All, IfOk};
-ghost use Rattle.ffv1_frame.specs.Written.{AreFilmOf, IsPictureIn};
+ghost use Rattle.ffv1_frame.specs.Written.{IsPictureIn};
 ghost use Rattle.ffv1_workers.specs.Decoding.{HasScratch};
 ghost use Rattle.ffv1_frame.specs.Grid.{IsGridOf, IsHeadIn};
 ghost use Rattle.ffv1_frame.specs.Parts.{tiles_of};
 
 use crate::dpx::is_well_formed;
-use crate::params::{is_depth, is_picture};
+use crate::params::{film, is_picture, recorded};
 use crate::slices::{is_inside, is_tile};
 use crate::stop::Stop;
 use crate::{answer, parse};
 use dpx_header::{Layout, line_len};
 use dpx_packing::{Tile, from_tiles};
 use ffv1_frame::{FrameWhy, Grid, Part, Parts, PictureWhy, grid};
-use ffv1_params::{Params, ParamsWhy};
+use ffv1_params::Params;
 use ffv1_slice::{Scratch, SliceHead, SliceWhy};
-use ffv1_workers::{MOST_TILES, NoScratch, decode_frame, encode_frame};
+use ffv1_workers::{MOST_TILES, NoScratch, decode_frame, encode_frame, no_slices};
+use slice_pool::OpenGate;
 use std::alloc::Global;
 use std::marker::Sync;
 use std::thread::Threads;
 
-/// A case of frames: a picture that is written, or a frame that is read.
-#[derive(Debug, Drop)]
-pub enum FrameCase {
-    Frame {
-        bits: u8,
-        width: u32,
-        height: u32,
-        samples: Vec<u16>,
-    },
-    Picture {
-        record: Vec<u8>,
-        width: u64,
-        height: u64,
-        bytes: Vec<u8>,
-    },
-}
-
-impl FrameCase {
-    /// The case that the words say, if it is one of these.
-    pub fn read(alloc: Global, words: &[&str]) -> Result<Option<FrameCase>, Stop> {
-        let case = match words {
-            ["frame", bits, width, height, samples] => {
-                frame(alloc, bits, width, height, samples)?
-            }
-            ["picture", record, width, height, bytes] => {
-                coded(alloc, record, width, height, bytes)?
-            }
-            _ => return Ok(None),
-        };
-        Ok(Some(case))
-    }
-
-    /// Makes the calls, with two workers each, and tells their answer.
-    pub fn answer<R: Threads + Sync>(&self, rt: &R, alloc: Global) -> Result<String, Stop> {
-        match self {
-            FrameCase::Frame {
-                bits,
-                width,
-                height,
-                samples,
-            } => written(rt, alloc, *bits, *width, *height, samples.clone()?),
-            FrameCase::Picture {
-                record,
-                width,
-                height,
-                bytes,
-            } => read(
-                rt,
-                alloc,
-                record.as_slice(),
-                *width,
-                *height,
-                bytes.as_slice(),
-            ),
+/// The answer to a case of frames, if the words are one: a picture that is written, or a frame that is read, each by two workers.
+pub fn answer_to<R: Threads + Sync>(
+    rt: &R,
+    alloc: Global,
+    words: &[&str],
+) -> Option<Result<String, Stop>> {
+    Some(match words {
+        ["frame", bits, width, height, samples] => {
+            frame(rt, alloc, bits, width, height, samples)
         }
-    }
-}
-
-fn frame(
-    alloc: Global,
-    bits: &str,
-    width: &str,
-    height: &str,
-    samples: &str,
-) -> Result<FrameCase, Stop> {
-    Ok(FrameCase::Frame {
-        bits: parse::number(bits)?,
-        width: parse::number(width)?,
-        height: parse::number(height)?,
-        samples: parse::numbers(alloc, samples)?,
+        ["picture", record, width, height, bytes] => {
+            coded(rt, alloc, record, width, height, bytes)
+        }
+        _ => return None,
     })
-}
-
-fn coded(
-    alloc: Global,
-    record: &str,
-    width: &str,
-    height: &str,
-    bytes: &str,
-) -> Result<FrameCase, Stop> {
-    Ok(FrameCase::Picture {
-        record: parse::bytes(alloc, record)?,
-        width: parse::number(width)?,
-        height: parse::number(height)?,
-        bytes: parse::bytes(alloc, bytes)?,
-    })
-}
-
-// The writer's parameters.
-#[tactic(auto, unfolding(ffv1_params::specs::Parameters::film_params))]
-fn film(alloc: Global, bits: u8, width: u32, height: u32) -> Result<Params, Stop>
-    ensures film { IfOk result (λ params. AreFilmOf params width height) }
-{
-    if !is_depth(bits) || !is_picture(width, height) {
-        return Err(Stop::OutOfRange);
-    }
-    Ok(Params::film(alloc, bits, width, height)?)
 }
 
 // Whether the samples are a picture of this size.
@@ -141,16 +60,17 @@ fn written<R: Threads + Sync>(
     bits: u8,
     width: u32,
     height: u32,
-    mut samples: Vec<u16>,
+    samples: &mut [u16],
 ) -> Result<String, Stop> {
     let params = film(alloc, bits, width, height)?;
     let Ok(grid) = grid(&params, u64::from(width), u64::from(height)) else {
         return Err(Stop::OutOfRange);
     };
-    if !is_picture_of(&params, width, height, samples.as_slice()) {
+    if !is_picture_of(&params, width, height, samples) {
         return Err(Stop::OutOfRange);
     }
     let mut bounds = vec![in alloc; 0usize; MOST_TILES + 1]?;
+    let mut answers = no_slices(alloc)?;
     let mut workers = [NoScratch, NoScratch];
     let frame = encode_frame(
         rt,
@@ -158,27 +78,40 @@ fn written<R: Threads + Sync>(
         &params,
         &grid,
         bounds.as_mut_slice(),
+        answers.as_mut_slice(),
         &mut workers,
-        samples.as_mut_slice(),
+        samples,
+        &OpenGate,
     )?;
     answer::bytes(alloc, frame.as_slice())
 }
 
-fn read<R: Threads + Sync>(
+fn frame<R: Threads + Sync>(
     rt: &R,
     alloc: Global,
-    record: &[u8],
-    width: u64,
-    height: u64,
-    bytes: &[u8],
+    bits: &str,
+    width: &str,
+    height: &str,
+    samples: &str,
 ) -> Result<String, Stop> {
-    let params = match ffv1_params::read(alloc, record) {
-        Ok(params) => params,
-        Err(ParamsWhy::NoMemory) => return Err(Stop::NoMemory),
-        Err(_) => return Err(Stop::OutOfRange),
-    };
+    let (width, height) = (parse::number(width)?, parse::number(height)?);
+    let (bits, mut samples) = (parse::number(bits)?, parse::numbers(alloc, samples)?);
+    written(rt, alloc, bits, width, height, &mut samples)
+}
+
+fn coded<R: Threads + Sync>(
+    rt: &R,
+    alloc: Global,
+    record: &str,
+    width: &str,
+    height: &str,
+    bytes: &str,
+) -> Result<String, Stop> {
+    let (width, height) = (parse::number(width)?, parse::number(height)?);
+    let bytes = parse::bytes(alloc, bytes)?;
+    let params = recorded(alloc, record)?;
     match grid(&params, width, height) {
-        Ok(grid) => picture(rt, alloc, &params, &grid, bytes),
+        Ok(grid) => picture(rt, alloc, &params, &grid, bytes.as_slice()),
         Err(_) => Ok(String::from_str(alloc, "GridBad")?),
     }
 }
@@ -207,6 +140,7 @@ fn picture<R: Threads + Sync>(
         answers.as_mut_slice(),
         &mut scratch,
         buffer.as_mut_slice(),
+        &OpenGate,
     );
     if let Err(why) = told {
         return picture_why(alloc, why);

@@ -21,6 +21,7 @@ mod shelf;
 mod side;
 mod slices;
 mod stop;
+mod waves;
 mod words;
 
 use std::io::{self, BufRead, BufReader, BufWriter, Write};

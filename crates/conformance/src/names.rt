@@ -8,31 +8,12 @@ use crate::{answer, parse};
 use name_tree::{NameError, NameTree};
 use std::alloc::Global;
 
-/// A case of names, in order of insertion.
-#[derive(Debug, Drop)]
-pub struct NamesCase(Vec<String>);
-
-impl NamesCase {
-    /// The case that the words say, if it is one of these.
-    pub fn read(alloc: Global, words: &[&str]) -> Result<Option<NamesCase>, Stop> {
-        match words {
-            ["names", names @ ..] => Ok(Some(NamesCase(texts_read(alloc, names)?))),
-            _ => Ok(None),
-        }
+/// The answer to a case of names, if the words are one: names in order of insertion.
+pub fn answer_to(alloc: Global, words: &[&str]) -> Option<Result<String, Stop>> {
+    match words {
+        ["names", names @ ..] => Some(names_of(alloc, names)),
+        _ => None,
     }
-
-    /// Makes the calls and tells their answers.
-    pub fn answer(&self, alloc: Global) -> Result<String, Stop> {
-        names_of(alloc, self.0.as_slice())
-    }
-}
-
-fn texts_read(alloc: Global, words: &[&str]) -> Result<Vec<String>, Stop> {
-    let mut texts = Vec::new(alloc);
-    for word in words {
-        texts.push(parse::text(alloc, word)?)?;
-    }
-    Ok(texts)
 }
 
 // The lengths of the folders of a name that are given now.
@@ -58,10 +39,10 @@ fn inserted(alloc: Global, tree: &mut NameTree, name: &str) -> Result<String, St
     }
 }
 
-fn names_of(alloc: Global, names: &[String]) -> Result<String, Stop> {
+fn names_of(alloc: Global, names: &[&str]) -> Result<String, Stop> {
     let mut tree = NameTree::new(alloc);
     let mut text = String::new(alloc);
-    for name in names {
+    for name in parse::texts(alloc, names)?.as_slice() {
         text.push_str(inserted(alloc, &mut tree, name.as_str())?.as_str())?;
         text.push(' ')?;
     }

@@ -6,33 +6,30 @@ use crate::{answer, parse};
 use matroska_read::{BlockAt, Codec, FileAt, Outline, OutlineError, Track};
 use std::alloc::Global;
 
-/// A case of a package whose outline is read.
-#[derive(Debug, Drop)]
-pub struct OutlineCase(Vec<u8>);
-
-impl OutlineCase {
-    /// The case that the words say, if it is one of these.
-    pub fn read(alloc: Global, words: &[&str]) -> Result<Option<OutlineCase>, Stop> {
-        match words {
-            ["outline", package] => Ok(Some(OutlineCase(parse::bytes(alloc, package)?))),
-            _ => Ok(None),
-        }
+/// The answer to a case of a package whose outline is read, if the words are one.
+pub fn answer_to(alloc: Global, words: &[&str]) -> Option<Result<String, Stop>> {
+    match words {
+        ["outline", package] => Some(outline(alloc, package)),
+        _ => None,
     }
+}
 
-    /// Makes the call and tells its answer.
-    pub fn answer(&self, alloc: Global) -> Result<String, Stop> {
-        let mut shelf = shelf_of(alloc, self.0.as_slice())?;
-        let len = len_of(&mut shelf, PACKAGE)?;
-        match matroska_read::outline(alloc, &mut shelf, PACKAGE, len) {
-            Ok(outline) => outline_told(alloc, &outline),
-            Err(OutlineError::Shape { place }) => Ok(format!(in alloc; "Shape {place}")?),
-            Err(OutlineError::Encoded { track }) => Ok(format!(in alloc; "Encoded {track}")?),
-            Err(OutlineError::TrackUnknown { track }) => {
-                Ok(format!(in alloc; "TrackUnknown {track}")?)
-            }
-            Err(OutlineError::NoMemory) => Err(Stop::NoMemory),
-            Err(OutlineError::Short { .. } | OutlineError::Failed) => Err(Stop::OutOfRange),
-        }
+fn outline(alloc: Global, package: &str) -> Result<String, Stop> {
+    let mut shelf = shelf_of(alloc, parse::bytes(alloc, package)?.as_slice())?;
+    let len = len_of(&mut shelf, PACKAGE)?;
+    match matroska_read::outline(alloc, &mut shelf, PACKAGE, len) {
+        Ok(outline) => outline_told(alloc, &outline),
+        Err(why) => why_told(alloc, why),
+    }
+}
+
+fn why_told(alloc: Global, why: OutlineError) -> Result<String, Stop> {
+    match why {
+        OutlineError::Shape { place } => Ok(format!(in alloc; "Shape {place}")?),
+        OutlineError::Encoded { track } => Ok(format!(in alloc; "Encoded {track}")?),
+        OutlineError::TrackUnknown { track } => Ok(format!(in alloc; "TrackUnknown {track}")?),
+        OutlineError::NoMemory => Err(Stop::NoMemory),
+        OutlineError::Short { .. } | OutlineError::Failed => Err(Stop::OutOfRange),
     }
 }
 

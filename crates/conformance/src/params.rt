@@ -1,46 +1,21 @@
 // The parameters of FFV1.
 
-ghost use Rattle.std.specs.Prelude.{IsTrue};
+ghost use Rattle.std.specs.Prelude.{IsTrue, IfOk};
 ghost use Rattle.ffv1_params.specs.Parameters.{IsPicture, is_depth};
+ghost use Rattle.ffv1_frame.specs.Written.{AreFilmOf};
 
 use crate::stop::Stop;
 use crate::{answer, parse};
 use ffv1_params::{Params, ParamsWhy};
 use std::alloc::Global;
 
-/// A case of parameters: those of the writer, or a record that is read.
-#[derive(Debug, Drop)]
-pub enum ParamsCase {
-    Film { bits: u8, width: u32, height: u32 },
-    Record(Vec<u8>),
-}
-
-impl ParamsCase {
-    /// The case that the words say, if it is one of these.
-    pub fn read(alloc: Global, words: &[&str]) -> Result<Option<ParamsCase>, Stop> {
-        let case = match words {
-            ["film", bits, width, height] => ParamsCase::Film {
-                bits: parse::number(bits)?,
-                width: parse::number(width)?,
-                height: parse::number(height)?,
-            },
-            ["record", list] => ParamsCase::Record(parse::bytes(alloc, list)?),
-            _ => return Ok(None),
-        };
-        Ok(Some(case))
-    }
-
-    /// Makes the call and tells its answer.
-    pub fn answer(&self, alloc: Global) -> Result<String, Stop> {
-        match self {
-            ParamsCase::Film {
-                bits,
-                width,
-                height,
-            } => film(alloc, *bits, *width, *height),
-            ParamsCase::Record(list) => record_read(alloc, list.as_slice()),
-        }
-    }
+/// The answer to a case of parameters, if the words are one: those of the writer, or a record that is read.
+pub fn answer_to(alloc: Global, words: &[&str]) -> Option<Result<String, Stop>> {
+    Some(match words {
+        ["film", bits, width, height] => film_written(alloc, bits, width, height),
+        ["record", record] => record_read(alloc, record),
+        _ => return None,
+    })
 }
 
 /// Whether pictures of this size are coded.
@@ -61,11 +36,30 @@ pub fn is_depth(bits: u8) -> bool
     matches!(bits, 8 | 10 | 12 | 16)
 }
 
-fn film(alloc: Global, bits: u8, width: u32, height: u32) -> Result<String, Stop> {
+/// The writer's parameters of pictures of this size.
+#[tactic(auto, unfolding(ffv1_params::specs::Parameters::film_params))]
+pub fn film(alloc: Global, bits: u8, width: u32, height: u32) -> Result<Params, Stop>
+    ensures film { IfOk result (λ params. AreFilmOf params width height) }
+{
     if !is_depth(bits) || !is_picture(width, height) {
         return Err(Stop::OutOfRange);
     }
-    let params = Params::film(alloc, bits, width, height)?;
+    Ok(Params::film(alloc, bits, width, height)?)
+}
+
+/// The parameters of a record.
+pub fn recorded(alloc: Global, record: &str) -> Result<Params, Stop> {
+    let record = parse::bytes(alloc, record)?;
+    match ffv1_params::read(alloc, record.as_slice()) {
+        Ok(params) => Ok(params),
+        Err(ParamsWhy::NoMemory) => Err(Stop::NoMemory),
+        Err(_) => Err(Stop::OutOfRange),
+    }
+}
+
+fn film_written(alloc: Global, bits: &str, width: &str, height: &str) -> Result<String, Stop> {
+    let (bits, width) = (parse::number(bits)?, parse::number(width)?);
+    let params = film(alloc, bits, width, parse::number(height)?)?;
     let coded = ffv1_params::write(alloc, &params)?;
     let coded = answer::bytes(alloc, coded.as_slice())?;
     let rows = params.rows();
@@ -82,8 +76,9 @@ fn contexts_of(alloc: Global, params: &Params) -> Result<String, Stop> {
     answer::numbers(alloc, contexts.as_slice())
 }
 
-fn record_read(alloc: Global, list: &[u8]) -> Result<String, Stop> {
-    match ffv1_params::read(alloc, list) {
+fn record_read(alloc: Global, record: &str) -> Result<String, Stop> {
+    let record = parse::bytes(alloc, record)?;
+    match ffv1_params::read(alloc, record.as_slice()) {
         Ok(params) => params_told(alloc, &params),
         Err(ParamsWhy::NoMemory) => Err(Stop::NoMemory),
         Err(why) => Ok(format!(in alloc; "{why:?}")?),

@@ -70,6 +70,15 @@ pub fn text(alloc: Global, word: &str) -> Result<String, Stop> {
     }
 }
 
+/// The texts of words.
+pub fn texts(alloc: Global, words: &[&str]) -> Result<Vec<String>, Stop> {
+    let mut texts = Vec::new(alloc);
+    for word in words {
+        texts.push(text(alloc, word)?)?;
+    }
+    Ok(texts)
+}
+
 fn push_numbers<N: FromStr<Err = ParseIntError> + Copy + Drop>(
     list: &mut Vec<N>,
     piece: &str,

@@ -12,103 +12,26 @@ use flac_predict::{
 };
 use std::alloc::Global;
 
-/// A case of prediction: residuals, restored samples, the best parameter, the choice for a channel.
-#[derive(Debug, Drop)]
-pub enum PredictCase {
-    ResidualFixed {
-        order: u32,
-        samples: Vec<i32>,
-    },
-    ResidualLinear {
-        set: u32,
-        samples: Vec<i32>,
-    },
-    Bank(u32),
-    RestoreFixed {
-        order: u32,
-        bits: u32,
-        numbers: Vec<i32>,
-    },
-    RestoreLinear {
-        set: LinearSet,
-        bits: u32,
-        numbers: Vec<i32>,
-    },
-    Rice(Vec<i32>),
-    Choice {
-        bits: u32,
-        samples: Vec<i32>,
-    },
-}
-
-impl PredictCase {
-    /// The case that the words say, if it is one of these.
-    pub fn read(alloc: Global, words: &[&str]) -> Result<Option<PredictCase>, Stop> {
-        let case = match words {
-            ["residual_fixed", order, samples] => PredictCase::ResidualFixed {
-                order: parse::number(order)?,
-                samples: parse::numbers(alloc, samples)?,
-            },
-            ["residual_linear", set, samples] => PredictCase::ResidualLinear {
-                set: parse::number(set)?,
-                samples: parse::numbers(alloc, samples)?,
-            },
-            ["bank", set] => PredictCase::Bank(parse::number(set)?),
-            ["restore_fixed", order, bits, numbers] => PredictCase::RestoreFixed {
-                order: parse::number(order)?,
-                bits: parse::number(bits)?,
-                numbers: parse::numbers(alloc, numbers)?,
-            },
-            [
-                "restore_linear",
-                precision,
-                shift,
-                coefficients,
-                bits,
-                numbers,
-            ] => {
-                PredictCase::RestoreLinear {
-                    set: set(alloc, precision, shift, coefficients)?,
-                    bits: parse::number(bits)?,
-                    numbers: parse::numbers(alloc, numbers)?,
-                }
-            }
-            ["rice", residuals] => PredictCase::Rice(parse::numbers(alloc, residuals)?),
-            ["choice", bits, samples] => PredictCase::Choice {
-                bits: parse::number(bits)?,
-                samples: parse::numbers(alloc, samples)?,
-            },
-            _ => return Ok(None),
-        };
-        Ok(Some(case))
-    }
-
-    /// Makes the calls and tells their answer.
-    pub fn answer(&self, alloc: Global) -> Result<String, Stop> {
-        match self {
-            PredictCase::ResidualFixed { order, samples } => {
-                fixed_residuals(alloc, *order, samples.as_slice())
-            }
-            PredictCase::ResidualLinear { set, samples } => {
-                linear_residuals(alloc, *set, samples.as_slice())
-            }
-            PredictCase::Bank(set) => set_of_bank(alloc, *set),
-            PredictCase::RestoreFixed {
-                order,
-                bits,
-                numbers,
-            } => fixed_restored(alloc, *order, *bits, numbers.clone()?),
-            PredictCase::RestoreLinear { set, bits, numbers } => {
-                linear_restored(alloc, set, *bits, numbers.clone()?)
-            }
-            PredictCase::Rice(residuals) => rice(alloc, residuals.as_slice()),
-            PredictCase::Choice { bits, samples } => choice(alloc, *bits, samples.as_slice()),
-        }
-    }
+/// The answer to a case of prediction, if the words are one: residuals, restored samples, the best parameter, the choice for
+/// a channel.
+pub fn answer_to(alloc: Global, words: &[&str]) -> Option<Result<String, Stop>> {
+    Some(match words {
+        ["residual_fixed", order, samples] => fixed_residuals(alloc, order, samples),
+        ["residual_linear", set, samples] => linear_residuals(alloc, set, samples),
+        ["bank", set] => set_of_bank(alloc, set),
+        ["restore_fixed", order, bits, numbers] => fixed_restored(alloc, order, bits, numbers),
+        ["restore_linear", set @ .., bits, numbers] => linear_restored(alloc, set, bits, numbers),
+        ["rice", residuals] => rice(alloc, residuals),
+        ["choice", bits, samples] => choice(alloc, bits, samples),
+        _ => return None,
+    })
 }
 
 // A set of linear predictors: its coefficients in front of zeros.
-fn set(alloc: Global, precision: &str, shift: &str, word: &str) -> Result<LinearSet, Stop> {
+fn set_read(alloc: Global, words: &[&str]) -> Result<LinearSet, Stop> {
+    let [precision, shift, word] = words else {
+        return Err(Stop::Unreadable);
+    };
     let written: Vec<i32> = parse::numbers(alloc, word)?;
     if written.len() > 32 {
         return Err(Stop::OutOfRange);
@@ -160,29 +83,34 @@ fn are_codable(numbers: &[i32]) -> bool
     true
 }
 
-fn fixed_residuals(alloc: Global, order: u32, samples: &[i32]) -> Result<String, Stop> {
-    if order > 4 || samples.len() < order as usize || !are_inside(samples, 25) {
+fn fixed_residuals(alloc: Global, order: &str, samples: &str) -> Result<String, Stop> {
+    let order = parse::number(order)?;
+    let samples: Vec<i32> = parse::numbers(alloc, samples)?;
+    if order > 4 || samples.len() < order as usize || !are_inside(samples.as_slice(), 25) {
         return Err(Stop::OutOfRange);
     }
     let mut out = vec![in alloc; 0i32; samples.len() - order as usize]?;
-    residual_fixed(order, samples, out.as_mut_slice());
+    residual_fixed(order, samples.as_slice(), out.as_mut_slice());
     answer::numbers(alloc, out.as_slice())
 }
 
-fn linear_residuals(alloc: Global, number: u32, samples: &[i32]) -> Result<String, Stop> {
+fn linear_residuals(alloc: Global, number: &str, samples: &str) -> Result<String, Stop> {
+    let number = parse::number(number)?;
+    let samples: Vec<i32> = parse::numbers(alloc, samples)?;
     if number < 1 || number > 8 {
         return Err(Stop::OutOfRange);
     }
     let set = bank(number);
-    if samples.len() < set.order as usize || !are_inside(samples, 25) {
+    if samples.len() < set.order as usize || !are_inside(samples.as_slice(), 25) {
         return Err(Stop::OutOfRange);
     }
     let mut out = vec![in alloc; 0i32; samples.len() - set.order as usize]?;
-    residual_linear(&set, samples, out.as_mut_slice());
+    residual_linear(&set, samples.as_slice(), out.as_mut_slice());
     answer::numbers(alloc, out.as_slice())
 }
 
-fn set_of_bank(alloc: Global, number: u32) -> Result<String, Stop> {
+fn set_of_bank(alloc: Global, number: &str) -> Result<String, Stop> {
+    let number = parse::number(number)?;
     if number < 1 || number > 8 {
         return Err(Stop::OutOfRange);
     }
@@ -204,12 +132,9 @@ fn restored(alloc: Global, fits: bool, samples: &[i32]) -> Result<String, Stop> 
     answer::numbers(alloc, samples)
 }
 
-fn fixed_restored(
-    alloc: Global,
-    order: u32,
-    bits: u32,
-    mut numbers: Vec<i32>,
-) -> Result<String, Stop> {
+fn fixed_restored(alloc: Global, order: &str, bits: &str, numbers: &str) -> Result<String, Stop> {
+    let (order, bits) = (parse::number(order)?, parse::number(bits)?);
+    let mut numbers: Vec<i32> = parse::numbers(alloc, numbers)?;
     if order > 4 || bits < 1 || bits > 25 || numbers.len() < order as usize {
         return Err(Stop::OutOfRange);
     }
@@ -220,12 +145,9 @@ fn fixed_restored(
     restored(alloc, fits, numbers.as_slice())
 }
 
-fn linear_restored(
-    alloc: Global,
-    set: &LinearSet,
-    bits: u32,
-    mut numbers: Vec<i32>,
-) -> Result<String, Stop> {
+fn linear_restored(alloc: Global, set: &[&str], bits: &str, numbers: &str) -> Result<String, Stop> {
+    let (set, bits) = (set_read(alloc, set)?, parse::number(bits)?);
+    let mut numbers: Vec<i32> = parse::numbers(alloc, numbers)?;
     if set.order < 1 || set.order > 32 || set.shift > 15 || bits < 1 || bits > 25 {
         return Err(Stop::OutOfRange);
     }
@@ -238,27 +160,34 @@ fn linear_restored(
     if !are_inside(&numbers.as_slice()[..set.order as usize], bits) {
         return Err(Stop::OutOfRange);
     }
-    let fits = restore_linear(set, numbers.as_mut_slice(), bits);
+    let fits = restore_linear(&set, numbers.as_mut_slice(), bits);
     restored(alloc, fits, numbers.as_slice())
 }
 
-fn rice(alloc: Global, residuals: &[i32]) -> Result<String, Stop> {
-    if residuals.len() > 4096 || !are_codable(residuals) {
+fn rice(alloc: Global, residuals: &str) -> Result<String, Stop> {
+    let residuals: Vec<i32> = parse::numbers(alloc, residuals)?;
+    if residuals.len() > 4096 || !are_codable(residuals.as_slice()) {
         return Err(Stop::OutOfRange);
     }
-    let (parameter, bits) = rice_bits(residuals);
+    let (parameter, bits) = rice_bits(residuals.as_slice());
     Ok(format!(in alloc; "{parameter} {bits}")?)
 }
 
-fn choice(alloc: Global, bits: u32, samples: &[i32]) -> Result<String, Stop> {
+fn choice(alloc: Global, bits: &str, samples: &str) -> Result<String, Stop> {
+    let bits = parse::number(bits)?;
+    let samples: Vec<i32> = parse::numbers(alloc, samples)?;
     if samples.is_empty() || samples.len() > 4096 || bits < 8 || bits > 25 {
         return Err(Stop::OutOfRange);
     }
-    if !are_inside(samples, bits) {
+    if !are_inside(samples.as_slice(), bits) {
         return Err(Stop::OutOfRange);
     }
     let mut work = vec![in alloc; 0i32; samples.len()]?;
-    match choose(samples, bits, work.as_mut_slice()) {
+    choice_told(alloc, choose(samples.as_slice(), bits, work.as_mut_slice()))
+}
+
+fn choice_told(alloc: Global, choice: Choice) -> Result<String, Stop> {
+    match choice {
         Choice::Constant => Ok(String::from_str(alloc, "constant")?),
         Choice::Fixed { order, parameter } => {
             Ok(format!(in alloc; "fixed {order} {parameter}")?)

@@ -18,42 +18,15 @@ const WORKERS: u32 = 4;
 // More bytes than a line has: a name of the side data has fewer than 2^16.
 const MOST_LINE: usize = 1 << 17;
 
-/// A case of a package: it is restored, or checked with its end cut off or a bit turned, once for each place.
-#[derive(Debug, Drop)]
-pub enum RestoreCase {
-    Restore(Vec<u8>),
-    Cuts { step: usize, package: Vec<u8> },
-    Flips { bits: Vec<usize>, package: Vec<u8> },
-}
-
-impl RestoreCase {
-    /// The case that the words say, if it is one of these.
-    pub fn read(alloc: Global, words: &[&str]) -> Result<Option<RestoreCase>, Stop> {
-        let case = match words {
-            ["restore", package] => RestoreCase::Restore(parse::bytes(alloc, package)?),
-            ["cuts", step, package] => RestoreCase::Cuts {
-                step: parse::number(step)?,
-                package: parse::bytes(alloc, package)?,
-            },
-            ["flips", bits, package] => RestoreCase::Flips {
-                bits: parse::numbers(alloc, bits)?,
-                package: parse::bytes(alloc, package)?,
-            },
-            _ => return Ok(None),
-        };
-        Ok(Some(case))
-    }
-
-    /// Makes the calls and tells their answer.
-    pub fn answer(&self, alloc: Global) -> Result<String, Stop> {
-        match self {
-            RestoreCase::Restore(package) => restored(alloc, package.as_slice()),
-            RestoreCase::Cuts { step, package } => cuts(alloc, *step, package.as_slice()),
-            RestoreCase::Flips { bits, package } => {
-                flips(alloc, bits.as_slice(), package.as_slice())
-            }
-        }
-    }
+/// The answer to a case of a package, if the words are one: it is restored, or checked with its end cut off or a bit turned,
+/// once for each place.
+pub fn answer_to(alloc: Global, words: &[&str]) -> Option<Result<String, Stop>> {
+    Some(match words {
+        ["restore", package] => restored(alloc, package),
+        ["cuts", step, package] => cuts(alloc, step, package),
+        ["flips", bits, package] => flips(alloc, bits, package),
+        _ => return None,
+    })
 }
 
 // Gives the files of a package, and answers how many bytes they have, or why the first is not given that isn't.
@@ -136,9 +109,10 @@ fn check_line(alloc: Global, package: &[u8]) -> Result<String, Stop> {
 }
 
 // The line of `check` for a package, and then the files that `restore` writes, in order of names.
-fn restored(alloc: Global, package: &[u8]) -> Result<String, Stop> {
-    let mut text = check_line(alloc, package)?;
-    let mut shelf = shelf_of(alloc, package)?;
+fn restored(alloc: Global, package: &str) -> Result<String, Stop> {
+    let package = parse::bytes(alloc, package)?;
+    let mut text = check_line(alloc, package.as_slice())?;
+    let mut shelf = shelf_of(alloc, package.as_slice())?;
     let _line = line_of(alloc, &mut shelf, Some(ROOT))?;
     for (name, content) in shelf.files() {
         if let Some(name) = name.as_str().strip_prefix("d/") {
@@ -166,14 +140,16 @@ fn push_line(text: &mut String, line: &str) -> Result<(), Stop> {
 }
 
 // Checks the first bytes of a package, at each `step` bytes.
-fn cuts(alloc: Global, step: usize, package: &[u8]) -> Result<String, Stop> {
+fn cuts(alloc: Global, step: &str, package: &str) -> Result<String, Stop> {
+    let step: usize = parse::number(step)?;
+    let package = parse::bytes(alloc, package)?;
     if step == 0 {
         return Err(Stop::OutOfRange);
     }
     let mut text = String::new(alloc);
     for len in 0..package.len() {
         if len % step == 0 {
-            let line = check_line(alloc, &package[..len])?;
+            let line = check_line(alloc, &package.as_slice()[..len])?;
             push_line(&mut text, line.as_str())?;
         }
     }
@@ -198,10 +174,12 @@ fn turned_line(alloc: Global, package: &[u8], bit: usize) -> Result<String, Stop
     check_line(alloc, turned.as_slice())
 }
 
-fn flips(alloc: Global, bits: &[usize], package: &[u8]) -> Result<String, Stop> {
+fn flips(alloc: Global, bits: &str, package: &str) -> Result<String, Stop> {
+    let bits: Vec<usize> = parse::numbers(alloc, bits)?;
+    let package = parse::bytes(alloc, package)?;
     let mut text = String::new(alloc);
-    for bit in bits {
-        let line = turned_line(alloc, package, *bit)?;
+    for bit in bits.as_slice() {
+        let line = turned_line(alloc, package.as_slice(), *bit)?;
         push_line(&mut text, line.as_str())?;
     }
     Ok(text)

@@ -11,22 +11,11 @@ use cook_bits::Name;
 use std::alloc::Global;
 use std::cmp::Ordering;
 
-/// A case of runs: the names of frames.
-#[derive(Debug, Drop)]
-pub struct RunsCase(Vec<Name>);
-
-impl RunsCase {
-    /// The case that the words say, if it is one of these.
-    pub fn read(alloc: Global, words: &[&str]) -> Result<Option<RunsCase>, Stop> {
-        match words {
-            ["runs", names @ ..] => Ok(Some(RunsCase(names_read(alloc, names)?))),
-            _ => Ok(None),
-        }
-    }
-
-    /// Makes the call and tells its answer.
-    pub fn answer(&self, alloc: Global) -> Result<String, Stop> {
-        runs_of(alloc, self.0.as_slice())
+/// The answer to a case of runs, if the words are one: the names of frames.
+pub fn answer_to(alloc: Global, words: &[&str]) -> Option<Result<String, Stop>> {
+    match words {
+        ["runs", names @ ..] => Some(runs_of(alloc, names)),
+        _ => None,
     }
 }
 
@@ -65,12 +54,13 @@ fn are_frames(names: &[Name]) -> bool
     true
 }
 
-fn runs_of(alloc: Global, names: &[Name]) -> Result<String, Stop> {
-    if names.len() > u32::MAX as usize || !are_frames(names) {
+fn runs_of(alloc: Global, names: &[&str]) -> Result<String, Stop> {
+    let names = names_read(alloc, names)?;
+    if names.len() > u32::MAX as usize || !are_frames(names.as_slice()) {
         return Err(Stop::OutOfRange);
     }
     let mut text = String::new(alloc);
-    for run in sequence_scan::runs(alloc, names)? {
+    for run in sequence_scan::runs(alloc, names.as_slice())? {
         if !text.is_empty() {
             text.push('/')?;
         }

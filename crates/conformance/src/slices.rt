@@ -4,107 +4,40 @@ ghost use Rattle.std.specs.Prelude.{◌≡◌, ◌^◌, IsTrue};
 ghost use Rattle.ffv1_slice.specs.Laws.{IsInside};
 ghost use Rattle.ffv1_slice.specs.Slice.{IsTile};
 
-use crate::params::{is_depth, is_picture};
+use crate::params::{film, recorded};
 use crate::stop::Stop;
 use crate::{answer, parse};
-use ffv1_params::{Params, ParamsWhy};
+use ffv1_params::Params;
 use ffv1_slice::{Scratch, SliceHead};
 use std::alloc::Global;
 
-/// Where the parameters of a slice come from.
-#[derive(Debug, Drop)]
-pub enum Source {
-    Film { bits: u8, width: u32, height: u32 },
-    Record(Vec<u8>),
-}
-
-/// A case of slices: a head and a tile that are coded, or bytes that are read.
-#[derive(Debug, Drop)]
-pub enum SliceCase {
-    Encode {
-        source: Source,
-        first: bool,
-        head: SliceHead,
-        width: u32,
-        height: u32,
-        tile: Vec<u16>,
-    },
-    Decode {
-        source: Source,
-        first: bool,
-        width: u32,
-        height: u32,
-        coded: Vec<u8>,
-    },
-}
-
-impl SliceCase {
-    /// The case that the words say, if it is one of these.
-    pub fn read(alloc: Global, words: &[&str]) -> Result<Option<SliceCase>, Stop> {
-        let case = match words {
-            ["slice", bits, width, height, rest @ ..] => {
-                written(alloc, film(bits, width, height)?, rest)?
-            }
-            ["slice_of", record, rest @ ..] => written(alloc, recorded(alloc, record)?, rest)?,
-            ["tile", bits, width, height, rest @ ..] => {
-                coded(alloc, film(bits, width, height)?, rest)?
-            }
-            ["tile_of", record, rest @ ..] => coded(alloc, recorded(alloc, record)?, rest)?,
-            _ => return Ok(None),
-        };
-        Ok(Some(case))
-    }
-
-    /// Makes the call and tells its answer.
-    pub fn answer(&self, alloc: Global) -> Result<String, Stop> {
-        match self {
-            SliceCase::Encode {
-                source,
-                first,
-                head,
-                width,
-                height,
-                tile,
-            } => {
-                let params = params_of(alloc, source)?;
-                encoded(
-                    alloc,
-                    &params,
-                    head,
-                    *width,
-                    *height,
-                    *first,
-                    tile.as_slice(),
-                )
-            }
-            SliceCase::Decode {
-                source,
-                first,
-                width,
-                height,
-                coded,
-            } => {
-                let params = params_of(alloc, source)?;
-                decoded(alloc, &params, *width, *height, *first, coded.as_slice())
-            }
-        }
-    }
-}
-
-fn film(bits: &str, width: &str, height: &str) -> Result<Source, Stop> {
-    Ok(Source::Film {
-        bits: parse::number(bits)?,
-        width: parse::number(width)?,
-        height: parse::number(height)?,
+/// The answer to a case of slices, if the words are one: a head and a tile that are coded, or bytes that are read, each behind
+/// its parameters, which are those of the writer or of a record.
+pub fn answer_to(alloc: Global, words: &[&str]) -> Option<Result<String, Stop>> {
+    Some(match words {
+        ["slice", words @ ..] => written(alloc, words),
+        ["slice_of", words @ ..] => written(alloc, words),
+        ["tile", words @ ..] => read(alloc, words),
+        ["tile_of", words @ ..] => read(alloc, words),
+        _ => return None,
     })
 }
 
-fn recorded(alloc: Global, record: &str) -> Result<Source, Stop> {
-    Ok(Source::Record(parse::bytes(alloc, record)?))
+// The parameters that words say: the depth, width and height of the writer's, or a record.
+fn params_of(alloc: Global, words: &[&str]) -> Result<Params, Stop> {
+    match words {
+        [bits, width, height] => {
+            let (bits, width) = (parse::number(bits)?, parse::number(width)?);
+            film(alloc, bits, width, parse::number(height)?)
+        }
+        [record] => recorded(alloc, record),
+        _ => Err(Stop::Unreadable),
+    }
 }
 
-fn written(alloc: Global, source: Source, words: &[&str]) -> Result<SliceCase, Stop> {
+fn written(alloc: Global, words: &[&str]) -> Result<String, Stop> {
     let [
+        source @ ..,
         first,
         x,
         y,
@@ -126,27 +59,20 @@ fn written(alloc: Global, source: Source, words: &[&str]) -> Result<SliceCase, S
         rows: parse::number(rows)?,
         indices: [parse::number(luma)?, parse::number(difference)?],
     };
-    Ok(SliceCase::Encode {
-        source,
-        first: parse::switch(first)?,
-        head,
-        width: parse::number(width)?,
-        height: parse::number(height)?,
-        tile: parse::numbers(alloc, tile)?,
-    })
+    let (width, height) = (parse::number(width)?, parse::number(height)?);
+    let (first, tile) = (parse::switch(first)?, parse::numbers(alloc, tile)?);
+    let params = params_of(alloc, source)?;
+    encoded(alloc, &params, &head, width, height, first, &tile)
 }
 
-fn coded(alloc: Global, source: Source, words: &[&str]) -> Result<SliceCase, Stop> {
-    let [first, width, height, coded] = words else {
+fn read(alloc: Global, words: &[&str]) -> Result<String, Stop> {
+    let [source @ .., first, width, height, coded] = words else {
         return Err(Stop::Unreadable);
     };
-    Ok(SliceCase::Decode {
-        source,
-        first: parse::switch(first)?,
-        width: parse::number(width)?,
-        height: parse::number(height)?,
-        coded: parse::bytes(alloc, coded)?,
-    })
+    let (width, height) = (parse::number(width)?, parse::number(height)?);
+    let (first, coded) = (parse::switch(first)?, parse::bytes(alloc, coded)?);
+    let params = params_of(alloc, source)?;
+    decoded(alloc, &params, width, height, first, &coded)
 }
 
 fn encoded(
@@ -180,50 +106,24 @@ fn decoded(
         return Err(Stop::OutOfRange);
     }
     let mut scratch = Scratch::new(alloc, params.most_contexts(), width)?;
-    let samples = 3 * (width as usize * height as usize);
-    let mut tile = vec![in alloc; 0u16; samples]?;
-    match ffv1_slice::decode(
-        params,
-        coded,
-        width,
-        height,
-        first,
-        tile.as_mut_slice(),
-        &mut scratch,
-    ) {
-        Ok(head) => {
-            let SliceHead {
-                x,
-                y,
-                columns,
-                rows,
-                indices: [luma, difference],
-            } = head;
-            let tile = answer::samples(alloc, tile.as_slice())?;
-            Ok(format!(in alloc; "{x} {y} {columns} {rows} {luma} {difference} {tile}")?)
-        }
+    let mut tile = vec![in alloc; 0u16; 3 * (width as usize * height as usize)]?;
+    let room = tile.as_mut_slice();
+    match ffv1_slice::decode(params, coded, width, height, first, room, &mut scratch) {
+        Ok(head) => tile_told(alloc, &head, tile.as_slice()),
         Err(why) => Ok(format!(in alloc; "{why:?}")?),
     }
 }
 
-fn params_of(alloc: Global, source: &Source) -> Result<Params, Stop> {
-    match source {
-        Source::Film {
-            bits,
-            width,
-            height,
-        } => {
-            if !is_depth(*bits) || !is_picture(*width, *height) {
-                return Err(Stop::OutOfRange);
-            }
-            Ok(Params::film(alloc, *bits, *width, *height)?)
-        }
-        Source::Record(list) => match ffv1_params::read(alloc, list.as_slice()) {
-            Ok(params) => Ok(params),
-            Err(ParamsWhy::NoMemory) => Err(Stop::NoMemory),
-            Err(_) => Err(Stop::OutOfRange),
-        },
-    }
+fn tile_told(alloc: Global, head: &SliceHead, tile: &[u16]) -> Result<String, Stop> {
+    let SliceHead {
+        x,
+        y,
+        columns,
+        rows,
+        indices: [luma, difference],
+    } = head;
+    let tile = answer::samples(alloc, tile)?;
+    Ok(format!(in alloc; "{x} {y} {columns} {rows} {luma} {difference} {tile}")?)
 }
 
 /// Whether a head is inside the grid of the parameters, with sets that they have.

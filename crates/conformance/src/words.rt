@@ -5,34 +5,20 @@ use crate::{answer, parse};
 use cook_top::{Order, Usage, read_words};
 use std::alloc::Global;
 
-/// A case of a command line.
-#[derive(Debug, Drop)]
-pub struct WordsCase(Vec<String>);
-
-impl WordsCase {
-    /// The case that the words say, if it is one of these.
-    pub fn read(alloc: Global, words: &[&str]) -> Result<Option<WordsCase>, Stop> {
-        match words {
-            ["words", line @ ..] => Ok(Some(WordsCase(texts_read(alloc, line)?))),
-            _ => Ok(None),
-        }
-    }
-
-    /// Makes the call and tells its answer.
-    pub fn answer(&self, alloc: Global) -> Result<String, Stop> {
-        match read_words(self.0.as_slice()) {
-            Ok(order) => order_told(alloc, order),
-            Err(Usage) => Ok(String::from_str(alloc, "usage")?),
-        }
+/// The answer to a case of a command line, if the words are one.
+pub fn answer_to(alloc: Global, words: &[&str]) -> Option<Result<String, Stop>> {
+    match words {
+        ["words", line @ ..] => Some(order_of(alloc, line)),
+        _ => None,
     }
 }
 
-fn texts_read(alloc: Global, words: &[&str]) -> Result<Vec<String>, Stop> {
-    let mut texts = Vec::new(alloc);
-    for word in words {
-        texts.push(parse::text(alloc, word)?)?;
+fn order_of(alloc: Global, line: &[&str]) -> Result<String, Stop> {
+    let line = parse::texts(alloc, line)?;
+    match read_words(line.as_slice()) {
+        Ok(order) => order_told(alloc, order),
+        Err(Usage) => Ok(String::from_str(alloc, "usage")?),
     }
-    Ok(texts)
 }
 
 fn order_told(alloc: Global, order: Order<'_>) -> Result<String, Stop> {

@@ -159,6 +159,7 @@ fn sync_folder(system: &HostRuntime, name: &str) {
 #[cfg(test)]
 mod tests {
     use super::{folder_of, read_piece};
+    use crate::tests::is;
     use std::cell::Cell;
     use std::io::{self, ErrorKind};
     use std::os::unix::fs::FileExt;
@@ -197,17 +198,17 @@ mod tests {
             ready: Cell::new(false),
         };
         let mut buf = [0; 2];
-        assert_eq!(rt; read_piece(&file, 0, &mut buf)?, 2);
-        assert_eq!(rt; buf, *b"ab");
-        assert_eq!(rt; read_piece(&file, 2, &mut buf)?, 1);
-        assert_eq!(rt; buf, *b"cb");
+        is(&rt, read_piece(&file, 0, &mut buf)?, 2);
+        is(&rt, buf, *b"ab");
+        is(&rt, read_piece(&file, 2, &mut buf)?, 1);
+        is(&rt, buf, *b"cb");
         Ok(())
     }
 
     #[test]
     fn the_folder_of_a_name_is_what_stands_before_its_last_slash(rt: HostRuntime) {
         for (name, folder) in [("a", "."), ("/a", "/"), ("a/b", "a"), ("/a/b/c", "/a/b")] {
-            assert_eq!(rt; folder_of(name), folder);
+            is(&rt, folder_of(name), folder);
         }
     }
 }

@@ -4,11 +4,17 @@ use crate::sealing_of;
 use cook_top::{Status, cook};
 use shelf_core::{CreateError, Entry, MemShelf, MemSink, Shelf, ShelfError};
 use std::alloc::{AllocError, Global};
+use std::fmt::Debug;
 use std::fs;
 use std::io::ErrorKind;
 use std::os::unix::fs::symlink;
 use std::process::Abort;
 use std::test::Fail;
+
+// What is given is what is wanted. An assertion where it stands is proved three times as long as this call.
+pub fn is<T: PartialEq + Debug + Drop>(rt: &impl Abort, given: T, wanted: T) {
+    assert_eq!(rt; given, wanted);
+}
 
 fn is_listed(entries: &[Entry], name: &str, plain: bool) -> bool {
     entries.iter().any(|entry| entry.name.as_str() == name && entry.plain == plain)
@@ -19,30 +25,39 @@ fn is_listed(entries: &[Entry], name: &str, plain: bool) -> bool {
 fn a_file_is_created_once_grows_and_is_read_in_pieces(rt: HostRuntime) -> Result<(), Fail> {
     let _ = fs::remove_dir_all(&rt, "written");
     let mut shelf = RealShelf::new(rt, Sealing::OnDisk);
-    assert_eq!(rt; shelf.make_folder("written/reel/ä"), Ok(()));
-    assert_eq!(rt; shelf.make_folder("written/reel/ä"), Ok(()));
+    is(&rt, shelf.make_folder("written/reel/ä"), Ok(()));
+    is(&rt, shelf.make_folder("written/reel/ä"), Ok(()));
     let song = "written/reel/ä/ö.txt";
-    assert_eq!(rt; shelf.create(song), Ok(()));
-    assert_eq!(rt; shelf.append(song, b"hello "), Ok(()));
-    assert_eq!(rt; shelf.append(song, b"world"), Ok(()));
-    assert_eq!(rt; shelf.seal(song), Ok(()));
-    assert_eq!(rt; shelf.create(song), Err(CreateError::Exists));
+    is(&rt, shelf.create(song), Ok(()));
+    is(&rt, shelf.append(song, b"hello "), Ok(()));
+    is(&rt, shelf.append(song, b"world"), Ok(()));
+    is(&rt, shelf.seal(song), Ok(()));
+    is(&rt, shelf.create(song), Err(CreateError::Exists));
     let mut buf = [0; 4];
-    assert_eq!(rt; shelf.read_at(song, 0, &mut buf), Ok(4));
-    assert_eq!(rt; buf, *b"hell");
-    assert_eq!(rt; shelf.read_at(song, 8, &mut buf), Ok(3));
-    assert_eq!(rt; buf, *b"rldl");
-    assert_eq!(rt; shelf.read_at(song, 11, &mut buf), Ok(0));
-    assert_eq!(rt;
+    is(&rt, shelf.read_at(song, 0, &mut buf), Ok(4));
+    is(&rt, buf, *b"hell");
+    is(&rt, shelf.read_at(song, 8, &mut buf), Ok(3));
+    is(&rt, buf, *b"rldl");
+    is(&rt, shelf.read_at(song, 11, &mut buf), Ok(0));
+    is(
+        &rt,
         shelf.read_at("written/none", 0, &mut buf),
-        Err(ShelfError::Failed)
+        Err(ShelfError::Failed),
     );
-    assert_eq!(rt; shelf.append("written/none", b"a"), Err(ShelfError::Failed));
-    assert_eq!(rt; shelf.create("written/none/a"), Err(CreateError::Failed));
+    is(
+        &rt,
+        shelf.append("written/none", b"a"),
+        Err(ShelfError::Failed),
+    );
+    is(
+        &rt,
+        shelf.create("written/none/a"),
+        Err(CreateError::Failed),
+    );
     let fault = shelf.last_fault.as_ref().ok_or("a fault")?;
-    assert_eq!(rt; fault.name.as_str(), "written/none/a");
-    assert_eq!(rt; fault.error.kind(), ErrorKind::NotFound);
-    assert_eq!(rt; shelf.make_folder(song), Err(ShelfError::Failed));
+    is(&rt, fault.name.as_str(), "written/none/a");
+    is(&rt, fault.error.kind(), ErrorKind::NotFound);
+    is(&rt, shelf.make_folder(song), Err(ShelfError::Failed));
     fs::remove_dir_all(&rt, "written")?;
     Ok(())
 }
@@ -59,19 +74,19 @@ fn a_listing_shows_each_thing_once_and_follows_no_link(rt: HostRuntime) -> Resul
     symlink(&rt, "nowhere", "listed/astray")?;
     let mut shelf = RealShelf::new(rt, Sealing::OnDisk);
     let entries = shelf.list("listed")?;
-    assert_eq!(rt; entries.len(), 5);
+    is(&rt, entries.len(), 5);
     assert!(rt; is_listed(entries.as_slice(), "reel/ä/ö.txt", true));
     assert!(rt; is_listed(entries.as_slice(), "empty", true));
     for link in ["link", "ring", "astray"] {
         assert!(rt; is_listed(entries.as_slice(), link, false), "{link}");
     }
     assert!(rt; matches!(shelf.list("listed/none"), Err(ShelfError::Failed)));
-    assert_eq!(rt; shelf.create("listed/astray"), Err(CreateError::Exists));
-    assert_eq!(rt; shelf.len("listed/reel/ä/ö.txt"), Ok(Some(11)));
-    assert_eq!(rt; shelf.len("listed/empty"), Ok(Some(0)));
-    assert_eq!(rt; shelf.len("listed/none"), Ok(None));
-    assert_eq!(rt; shelf.len("listed/empty/none"), Ok(None));
-    assert_eq!(rt; shelf.len("listed/reel"), Err(ShelfError::Failed));
+    is(&rt, shelf.create("listed/astray"), Err(CreateError::Exists));
+    is(&rt, shelf.len("listed/reel/ä/ö.txt"), Ok(Some(11)));
+    is(&rt, shelf.len("listed/empty"), Ok(Some(0)));
+    is(&rt, shelf.len("listed/none"), Ok(None));
+    is(&rt, shelf.len("listed/empty/none"), Ok(None));
+    is(&rt, shelf.len("listed/reel"), Err(ShelfError::Failed));
     fs::remove_dir_all(&rt, "listed")?;
     Ok(())
 }
@@ -149,7 +164,7 @@ fn lay(rt: &HostRuntime, memory: &mut MemShelf) -> Result<(), Fail> {
 // Packs the folder, and answers the report.
 fn pack_folder<S: Shelf>(rt: &impl Abort, alloc: Global, shelf: &mut S) -> Result<MemSink, Fail> {
     let (status, out) = run(alloc, shelf, "pack packed p.mkv")?;
-    assert_eq!(rt; status.number(), 0);
+    is(rt, status.number(), 0);
     Ok(out)
 }
 
@@ -173,18 +188,18 @@ fn a_real_folder_is_packed_as_in_memory_and_comes_back(rt: HostRuntime) -> Resul
     let on_disk = pack_folder(&rt, rt.alloc(), &mut RealShelf::new(rt, Sealing::OnDisk))?;
     let package = fs::read(&rt, "p.mkv")?;
     let report = report_of(rt.alloc(), package.len())?;
-    assert_eq!(rt; on_disk.bytes(), report.as_bytes());
-    assert_eq!(rt; in_memory.bytes(), report.as_bytes());
+    is(&rt, on_disk.bytes(), report.as_bytes());
+    is(&rt, in_memory.bytes(), report.as_bytes());
     let stored = memory.files();
     assert_eq!(rt; stored.len(), 5);
-    assert_eq!(rt; stored[0].0.as_str(), "p.mkv");
+    is(&rt, stored[0].0.as_str(), "p.mkv");
     assert!(rt; stored[0].1.as_slice() == package.as_slice());
     let mut shelf = RealShelf::new(rt, Sealing::LeftToSystem);
     let (status, out) = run(rt.alloc(), &mut shelf, "restore p.mkv packed/back")?;
-    assert_eq!(rt; status.number(), 0);
+    is(&rt, status.number(), 0);
     let report = b"restored 4 files, 1572881 bytes\n";
-    assert_eq!(rt; out.bytes(), report.as_slice());
-    assert_eq!(rt; shelf.list("packed/back")?.len(), 4);
+    is(&rt, out.bytes(), report.as_slice());
+    is(&rt, shelf.list("packed/back")?.len(), 4);
     for name in ["empty", "reel.txt", "reel/long", "reel/ä/ö.txt"] {
         assert!(rt; came_back(&rt, name)?, "{name}");
     }
@@ -203,10 +218,14 @@ fn a_package_in_the_way_is_left_as_it_is(rt: HostRuntime) -> Result<(), Fail> {
         &mut RealShelf::new(rt, Sealing::OnDisk),
         "pack taken/reel taken/p.mkv",
     )?;
-    assert_eq!(rt; status.number(), 4);
-    assert_eq!(rt; out.bytes(), b"cook: taken/p.mkv: in the way\n".as_slice());
+    is(&rt, status.number(), 4);
+    is(
+        &rt,
+        out.bytes(),
+        b"cook: taken/p.mkv: in the way\n".as_slice(),
+    );
     let kept = fs::read(&rt, "taken/p.mkv")?;
-    assert_eq!(rt; kept.as_slice(), b"hello".as_slice());
+    is(&rt, kept.as_slice(), b"hello".as_slice());
     fs::remove_dir_all(&rt, "taken")?;
     Ok(())
 }
@@ -219,12 +238,13 @@ fn a_folder_with_a_link_is_refused(rt: HostRuntime) -> Result<(), Fail> {
     symlink(&rt, "../note", "linked/reel/link")?;
     let mut shelf = RealShelf::new(rt, Sealing::OnDisk);
     let (status, out) = run(rt.alloc(), &mut shelf, "pack linked linked.mkv")?;
-    assert_eq!(rt; status.number(), 2);
-    assert_eq!(rt;
+    is(&rt, status.number(), 2);
+    is(
+        &rt,
         out.bytes(),
-        b"cook: reel/link: not a plain file\n".as_slice()
+        b"cook: reel/link: not a plain file\n".as_slice(),
     );
-    assert_eq!(rt; shelf.len("linked.mkv"), Ok(None));
+    is(&rt, shelf.len("linked.mkv"), Ok(None));
     fs::remove_dir_all(&rt, "linked")?;
     Ok(())
 }

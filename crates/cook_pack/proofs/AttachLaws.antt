@@ -11,8 +11,8 @@ use Rattle.cook_pack.specs.Planned.{Planned}
 use Rattle.cook_pack.specs.Stops.{StopsFor}
 use Rattle.cook_pack.specs.declared.error.PackError.{PackError}
 use Rattle.cook_pack.specs.declared.error.PackError.TheVariants.{Refused, InTheWay, Changed, Missing, Failed, NoMemory}
-use Rattle.cook_pack.specs.Pieces.{attached_head, attached_file}
-use Rattle.cook_pack.specs.PieceLaws.{attached_file-is}
+use Rattle.matroska_write.specs.Attached.{attached_head, attached_file}
+use Rattle.matroska_write.specs.AttachedLaws.{attached_file-is}
 
 pub attached-whole : (told : Told) (name from : List ℕ) (side : Bool) (uid len : ℕ) → (IsTold told → len ≡ length (content told from)) → IsTold told
     → attached_head name side uid len ++ content told from ≡ attached_file name side uid (content told from)

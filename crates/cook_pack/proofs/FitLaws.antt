@@ -13,8 +13,8 @@ use Rattle.shelf_core.specs.FileLaws.{HasFile-with_file, HasFile-length_of, IsAp
 use Rattle.shelf_core.specs.PieceLaws.{grown-if_told, GrewPartly-if_told}
 use Rattle.shelf_core.proofs.UnderLaws.{content-under, length_of-under}
 use Rattle.reversal.specs.declared.record.FileRecord.{FileRecord}
-use Rattle.reversal.specs.SideData.{HasSum, names_of, side_data_len, side_data_of}
-use Rattle.reversal.specs.Lengths.{length_is}
+use Rattle.reversal.specs.SideData.{HasSum, IsOther, names_of, side_data_len, side_data_of}
+use Rattle.reversal.specs.Lengths.{length_of_others}
 use Rattle.cook_pack.specs.Attaching.{AreAttachable, CanAttach, IsAttachable, files_on, planned_files}
 use Rattle.cook_pack.specs.declared.packing.PackSum.{PackSum}
 use Rattle.cook_pack.specs.declared.planned_file.PlannedFile.{PlannedFile}
@@ -22,7 +22,7 @@ use Rattle.cook_pack.specs.Lengths.{attached_len, attachments_len, others_len, o
 use Rattle.cook_pack.specs.Package.{attached_from, attachments_of, others_of, package_of, record_of, records_of, side_attached}
 use Rattle.cook_pack.specs.Planned.{Planned, IsSound, Fits, FitsShelf, directory_of, names_planned, no_planned_file, planned_file}
 use Rattle.cook_pack.specs.Sum.{IsSumOf}
-use Rattle.cook_pack.specs.PieceLaws.{length-attached_file}
+use Rattle.matroska_write.specs.AttachedLaws.{length-attached_file}
 use Rattle.cook_pack.proofs.LengthLaws.{others_len-is, others_planned-all, short_at, small_at}
 use Rattle.cook_pack.proofs.PlannedLaws.{planned_at, length-planned_files, others-all}
 use Rattle.cook_pack.proofs.PackLaws.{names-planned}
@@ -89,9 +89,12 @@ can_attach g old created plan pkg is sound fits =
 sums : (directory files : List File) → All HasSum (map (record_of directory) files)
 sums directory files = All-map HasSum (record_of directory) files (λ k d h. length-md5 _)
 
-length-side_attached : (uid : ℕ) (records : List FileRecord) → All HasSum records → length (side_attached uid records) ≡ attached_len SIDE_NAME.now true uid (side_data_len (names_of records))
-length-side_attached uid records summed =
-    length-attached_file SIDE_NAME.now true uid (side_data_of records) ∙ ap (attached_len SIDE_NAME.now true uid) (length_is records summed)
+others : (directory files : List File) → All IsOther (map (record_of directory) files)
+others directory files = All-map IsOther (record_of directory) files (λ k d h. refl)
+
+length-side_attached : (uid : ℕ) (records : List FileRecord) → All IsOther records → All HasSum records → length (side_attached uid records) ≡ attached_len SIDE_NAME.now true uid (side_data_len (names_of records))
+length-side_attached uid records all summed =
+    length-attached_file SIDE_NAME.now true uid (side_data_of records) ∙ ap (attached_len SIDE_NAME.now true uid) (length_of_others records all summed)
 
 names-recorded : (directory files : List File) → names_of (map (record_of directory) files) ≡ map (λ file. file.0) files
 names-recorded directory [] = refl
@@ -103,7 +106,7 @@ side-is told plan =
     let files = planned_files told plan in
     let count : length (others_planned plan.files) ≡ length (others_of files) = ap length (others_planned-all plan.files) ∙ sym (length-planned_files told plan) ∙ ap length (sym (others-all files)) in
     let names : names_planned plan.files ≡ names_of (records_of files) = sym (names-recorded files files ∙ names-planned told plan) in
-    (λ i. attached_len SIDE_NAME.now true (count i + 1) (side_data_len (names i))) ∙ sym (length-side_attached (length (others_of files) + 1) (records_of files) (sums files files))
+    (λ i. attached_len SIDE_NAME.now true (count i + 1) (side_data_len (names i))) ∙ sym (length-side_attached (length (others_of files) + 1) (records_of files) (others files files) (sums files files))
 
 pub content-is : (told : Told) (plan : Planned) (to : List ℕ) → AreAttachable told plan to → IsTold told → attachments_len plan ≡ length (attachments_of (planned_files told plan))
 unfolding attachments_of

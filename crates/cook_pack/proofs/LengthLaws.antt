@@ -14,7 +14,7 @@ use Rattle.cook_pack.specs.Attaching.{AreAttachable, file_of, planned_files}
 use Rattle.cook_pack.specs.Lengths.{attached_len, is_attached, others_len, others_planned}
 use Rattle.cook_pack.specs.Package.{attached_from, attachment}
 use Rattle.cook_pack.specs.Planned.{Planned, IsSound, names_planned, lengths_planned}
-use Rattle.cook_pack.specs.PieceLaws.{length-attached_file}
+use Rattle.matroska_write.specs.AttachedLaws.{length-attached_file}
 use Rattle.cook_pack.proofs.PlannedLaws.{short_name}
 
 -- ---- the files at their places

@@ -7,16 +7,17 @@ use Rattle.cook_bits.specs.Names.{File, IsRelativeName}
 use Rattle.shelf_core.specs.Told.{Told, IsTold, content}
 use Rattle.reversal.specs.declared.record.FileRecord.{FileRecord}
 use Rattle.reversal.specs.SideData.{AreRecords, AreNames, names_of, side_data_len, side_data_of}
-use Rattle.reversal.specs.Lengths.{names_long}
+use Rattle.reversal.specs.Lengths.{names_long, plain-shapes}
 use Rattle.ebml_core.specs.Element.{element, head_of, uint_element, uint_bytes, size_bytes, shortest_size, byte_count, least_from}
 use Rattle.ebml_core.specs.Heads.{length-head_of-le}
 use Rattle.matroska_names.specs.declared.ids.TheConstants.{ATTACHMENTS}
 use Rattle.cook_pack.specs.declared.planned_file.PlannedFile.{PlannedFile}
 use Rattle.cook_pack.specs.Attaching.{AreTheRecords, file_of, planned_files}
-use Rattle.cook_pack.specs.Pieces.{attached_head, attached_file, attachments_head, header_bytes, ebml_content, info_content}
+use Rattle.matroska_write.specs.Attached.{attached_head, attached_file, attachments_head}
+use Rattle.matroska_write.specs.Header.{header_bytes, ebml_content, info_content}
 use Rattle.cook_pack.specs.Planned.{Planned, IsSound, names_planned}
 use Rattle.cook_pack.specs.Package.{attached_from, attachments_bytes, attachments_of, others_of, other_record, package_of, records_of, side_attached}
-use Rattle.cook_pack.specs.PieceLaws.{attached_file-is}
+use Rattle.matroska_write.specs.AttachedLaws.{attached_file-is}
 use Rattle.cook_pack.proofs.PlannedLaws.{short_name, others-all}
 
 short_step : (len total count : ℕ) → len ≤ 1024 → total ≤ 1051 * count → 27 + len + total ≤ 1051 * suc count
@@ -60,7 +61,7 @@ few-records told plan records sound of = omega (arith, names_long records, ap le
 pub records-are : (told : Told) (plan : Planned) (records : List FileRecord) → IsSound plan → AreTheRecords told (others_of (planned_files told plan)) records → AreRecords records
 records-are told plan records sound of = record {
   few = omega (arith, few-records told plan records sound of);
-  shaped = of.shaped;
+  shaped = plain-shapes records of.plain;
   named = subst AreNames (sym (names-others told plan records of)) sound.named;
 }
 

@@ -13,10 +13,10 @@ use Rattle.shelf_core.specs.declared.shelf.Shelf.{Ghosts}
 use Rattle.shelf_core.specs.FileLaws.{grown-nothing, HasFile-with_file, IsApart-with_file, IsTold-with_file}
 use Rattle.shelf_core.specs.PieceLaws.{content-while_grown, IsTold-while_grown}
 use Rattle.reversal.specs.declared.record.FileRecord.{FileRecord}
-use Rattle.reversal.specs.SideData.{HasShape}
+use Rattle.reversal.specs.SideData.{IsPlain}
 use Rattle.cook_pack.specs.declared.planned_file.PlannedFile.{PlannedFile}
 use Rattle.cook_pack.specs.Attaching.{AreAttachable, AreTheRecords, CanAttach, CanAttachFile, IsAttachable, IsTheRecord, file_of, file_on, files_on, planned_files}
-use Rattle.cook_pack.specs.Pieces.{attached_file}
+use Rattle.matroska_write.specs.Attached.{attached_file}
 use Rattle.cook_pack.specs.Planned.{Planned, IsInPlan, no_planned_file}
 use Rattle.cook_pack.specs.Package.{attached_from, attachment, others_of, other_record}
 use Rattle.cook_pack.proofs.GrowLaws.{GrewInPart-between, GrewInPart-first, GrewInPart-second, Grew-both}
@@ -107,24 +107,24 @@ is_next g old new plan to added root uid k files file grew ready at_root listed 
 -- ---- their records
 
 -- the record of a file
-pub is_record : (told : Told) (root to : List ℕ) (file : PlannedFile) (made : FileRecord) → IsAttachable told root to file → made.name ≡ file.name → HasShape made → made.length ≡ file.length
+pub is_record : (told : Told) (root to : List ℕ) (file : PlannedFile) (made : FileRecord) → IsAttachable told root to file → made.name ≡ file.name → IsPlain made → made.length ≡ file.length
     → (IsTold told → made.md5 ≡ md5 (content told (full_name root file.name))) → IsTheRecord told (file_of told root file) made
-is_record told root to file made ready named shaped long sum = record {
+is_record told root to file made ready named plain long sum = record {
   named = named;
-  shaped = shaped;
+  plain = plain;
   whole = λ known i. record {
     name = named i;
-    kind = shaped.other i;
+    kind = plain.other i;
     length = (long ∙ ready.measured known) i;
     md5 = sum known i;
-    head = shaped.no_head i;
-    pads = shaped.no_pads i;
-    tail = shaped.no_tail i;
+    head = plain.no_head i;
+    pads = plain.no_pads i;
+    tail = plain.no_tail i;
   };
 }
 
 pub records-none : (told : Told) (files : List File) → AreTheRecords told (take 0 files) []
-records-none told files = record { named = refl; shaped = λ k d h. absurd (omega arith); whole = λ known. refl }
+records-none told files = record { named = refl; plain = λ k d h. absurd (omega arith); whole = λ known. refl }
 
 pub records-more : (told between : Told) (to added : List ℕ) (files : List File) (file : File) (records : List FileRecord) (made : FileRecord) (k : ℕ) → between ≡ grown told to added → file ≡ get_or files k no_file → k < length files
     → AreTheRecords told (take k files) records → IsTheRecord between file made → AreTheRecords told (take (k + 1) files) (records ++ made ∷ [])
@@ -132,7 +132,7 @@ records-more told between to added files file records made k is at inside so_far
     let next = take_more files k no_file inside in
     record {
       named = map-append name_of records (made ∷ []) ∙ (λ i. so_far.named i ++ (one.named ∙ ap first at) i ∷ []) ∙ sym (map-append first (take k files) (get_or files k no_file ∷ [])) ∙ ap (map first) (sym next);
-      shaped = All-push HasShape records made so_far.shaped one.shaped;
+      plain = All-push IsPlain records made so_far.plain one.plain;
       whole = λ known. (λ i. so_far.whole known i ++ (one.whole (IsTold-while_grown told between to added is known) ∙ ap other_record at) i ∷ []) ∙ sym (map-append other_record (take k files) (get_or files k no_file ∷ [])) ∙ ap (map other_record) (sym next);
     }
   where

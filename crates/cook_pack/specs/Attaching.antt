@@ -2,13 +2,13 @@
 use Rattle.std.specs.Prelude.{◌≡◌, ℕ, ◌^◌, ◌≤◌, false, List, length, map, All}
 use Rattle.cook_bits.specs.Names.{File, full_name}
 use Rattle.reversal.specs.declared.record.FileRecord.{FileRecord}
-use Rattle.reversal.specs.SideData.{HasShape, names_of}
+use Rattle.reversal.specs.SideData.{IsPlain, names_of}
 use Rattle.shelf_core.specs.Reads.{bytes_of}
 use Rattle.shelf_core.specs.Told.{Told, IsTold, HasFile, IsApart, content}
 use Rattle.shelf_core.specs.declared.shelf.Shelf.{Ghosts}
 use Rattle.cook_pack.specs.declared.planned_file.PlannedFile.{PlannedFile}
 use Rattle.cook_pack.specs.Package.{attached_from, attachments_bytes, attachments_of, other_record, others_of, package_of}
-use Rattle.cook_pack.specs.Pieces.{attached_file}
+use Rattle.matroska_write.specs.Attached.{attached_file}
 use Rattle.cook_pack.specs.Planned.{Planned, IsSound}
 
 -- ---- contents
@@ -73,13 +73,13 @@ CanAttach g shelf plan to = AreAttachable (g.files shelf) plan to
 -- the record of a file, and where it is told, with the sum of its content
 pub record IsTheRecord (told : Told) (file : File) (made : FileRecord) : Type 0 where
   pub named : made.name ≡ file.0
-  pub shaped : HasShape made
+  pub plain : IsPlain made
   pub whole : IsTold told → made ≡ other_record file
 
 -- the records of files in their order
 pub record AreTheRecords (told : Told) (files : List File) (records : List FileRecord) : Type 0 where
   pub named : names_of records ≡ map (λ file. file.0) files
-  pub shaped : All HasShape records
+  pub plain : All IsPlain records
   pub whole : IsTold told → records ≡ map other_record files
 
 abbrev pub IsRecordOf : {S : Type 0} → Ghosts S → S → File → FileRecord → Type 0

@@ -6,7 +6,7 @@ use Rattle.cook_pack.specs.declared.planned_file.PlannedFile.{PlannedFile}
 use Rattle.cook_pack.specs.declared.planned_file.PlannedKind.{PlannedKind}
 use Rattle.cook_pack.specs.declared.planned_file.PlannedKind.TheVariants.{Other}
 use Rattle.cook_pack.specs.Planned.{Planned, names_planned}
-use Rattle.cook_pack.specs.Pieces.{attached_head}
+use Rattle.matroska_write.specs.Attached.{attached_head}
 
 -- a file that is attached as it is
 abbrev pub is_attached : PlannedKind → Bool

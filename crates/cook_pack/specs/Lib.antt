@@ -5,8 +5,6 @@ pub mod Film
 pub mod Lengths
 pub mod Offence
 pub mod Package
-pub mod PieceLaws
-pub mod Pieces
 pub mod Planned
 pub mod Stops
 pub mod Sum

@@ -10,7 +10,8 @@ use Rattle.reversal.specs.declared.record.FileRecord.{FileRecord}
 use Rattle.reversal.specs.declared.record.Kind.{Kind}
 use Rattle.reversal.specs.declared.record.Kind.TheVariants.{Other, Frame, Wave}
 use Rattle.reversal.specs.SideData.{side_data_of}
-use Rattle.cook_pack.specs.Pieces.{header_bytes, attached_file}
+use Rattle.matroska_write.specs.Attached.{attached_file}
+use Rattle.matroska_write.specs.Header.{header_bytes}
 
 -- ---- kinds
 

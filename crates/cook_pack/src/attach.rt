@@ -4,15 +4,15 @@ ghost use Rattle.shelf_core.specs.Reads.{Tells, Has, Differ, IsUnsealed, bytes_o
 ghost use Rattle.shelf_core.specs.Writes.{Grew, GrewInPart};
 ghost use Rattle.cook_pack.specs.Attaching.{AreRecordsOf, CanAttach, CanAttachFile, IsRecordOf, attached_on, file_on, files_on, others_on};
 ghost use Rattle.cook_pack.specs.Package.{attachment, others_of};
-ghost use Rattle.cook_pack.specs.Pieces.{attached_file};
+ghost use Rattle.matroska_write.specs.Attached.{attached_file};
 ghost use Rattle.cook_pack.specs.Planned.{Planned, IsInPlan};
 ghost use Rattle.cook_pack.specs.Stops.{StopsFor, StopsFrom};
 ghost use Rattle.md5.specs.Md5.{md5};
 
 use crate::append::append_piece;
-use crate::pieces::attached_head;
 use crate::{PackError, Plan, PlannedFile, PlannedKind};
 use cook_bits::{Bytes, Name, NoMemory, full_name};
+use matroska_write::attached_head;
 use reversal::{FileRecord, Kind};
 use shelf_core::{PieceError, Shelf};
 use shelf_parts::{FilePart, copy_part};

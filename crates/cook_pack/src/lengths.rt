@@ -4,9 +4,9 @@ ghost use Rattle.reversal.specs.SideData.{side_data_len};
 ghost use Rattle.cook_pack.specs.Lengths.{attachments_len, others_len, others_planned};
 ghost use Rattle.cook_pack.specs.Planned.{names_planned};
 
-use crate::pieces::attached_len;
 use crate::{Plan, PlannedKind};
 use matroska_names::texts::SIDE_NAME;
+use matroska_write::attached_len;
 
 /// The bytes of the side data before its records.
 const SIDE_HEAD_LEN: u64 = 12;

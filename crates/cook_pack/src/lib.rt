@@ -7,7 +7,6 @@ mod error;
 mod lengths;
 mod offence;
 mod packing;
-mod pieces;
 mod planned;
 mod planned_file;
 mod planning;

@@ -1,7 +1,7 @@
 // The package as a whole: its creation, its parts in their order, its sealing.
 ghost use Rattle.std.specs.Prelude.{◌≡◌, ◌<◌, ◌≤◌, ◌^◌, length, List, ℕ, OnOk, OnErr, IfOk, IfErr};
 ghost use Rattle.cook_bits.specs.Names.{File};
-ghost use Rattle.reversal.specs.SideData.{AreRecords};
+ghost use Rattle.reversal.specs.SideData.{AreRecords, all_parts_len};
 ghost use Rattle.shelf_core.specs.Reads.{CountsStay, Has, IsUnsealed, Tells};
 ghost use Rattle.shelf_core.specs.Writes.{Created, Grew, GrewInPart, Wrote};
 ghost use Rattle.cook_pack.specs.Attaching.{CanAttach, attachments_bytes_on, attachments_on, package_on};
@@ -13,10 +13,10 @@ ghost use Rattle.cook_pack.specs.Sum.{IsSumOf};
 use crate::append::{append_both, append_piece};
 use crate::attach::attach_others;
 use crate::lengths::attachments_len;
-use crate::pieces::{attached_head, attachments_head, header};
 use crate::{PackError, Plan};
 use cook_bits::{Name, NoMemory};
 use matroska_names::texts::SIDE_NAME;
+use matroska_write::{attached_head, attachments_head, header};
 use reversal::FileRecord;
 use shelf_core::{CreateError, Shelf};
 use std::alloc::Global;
@@ -52,6 +52,7 @@ fn attach_side<S: Shelf>(
     to: &str,
 ) -> Result<(), PackError>
     requires are { AreRecords records.now }
+    requires small { all_parts_len records.now < 2 ^ 52 }
     requires few { length records.now ≤ 1000000 }
     requires open { IsUnsealed S.Shelf shelf.old to.now }
     requires to_there { Has S.Shelf shelf.old to.now }

@@ -5,3 +5,4 @@ pub mod NameLaws
 pub mod NextLaws
 pub mod OpenLaws
 pub mod PlacesLaws
+pub mod PlainLaws

@@ -10,10 +10,11 @@ use Rattle.std.proofs.lemmas.List.Folds.{list_any-append}
 use Rattle.cook_bits.specs.Names.{File, IsRelativeName, holds_folder_of, is_same_name, proper_folders_of}
 use Rattle.shelf_core.specs.Told.{no_file}
 use Rattle.reversal.specs.SideData.{AreNames, names_of}
-use Rattle.reversal.specs.SideReading.{side_read}
 use Rattle.reversal.specs.declared.record.FileRecord.{FileRecord}
 use Rattle.reversal.specs.declared.error.SideError.{SideError}
 use Rattle.reversal.proofs.Found.{names_in_order}
+use Rattle.cook_restore.specs.Plain.{plain_read}
+use Rattle.cook_restore.proofs.PlainLaws.{plain-read}
 use Rattle.cook_restore.specs.Meaning.{Meaning, meaning_of, outline_meant, side_meant, records_meant, files_meant, with_file_meant, content_meant, side_seen}
 use Rattle.matroska_read.specs.Outline.{places_of, outline_of}
 use Rattle.matroska_read.specs.Places.{Places, Attached, Outline, outline_at}
@@ -127,15 +128,15 @@ no-names = front-in-order 0 [] (record { relative = λ i d inside. absurd (omega
 abbrev AreInOrder : Meaning → Type 0
 AreInOrder meaning = AreNames (map (λ (file : File). file.0) meaning.files)
 
-records-in-order : (outline : Outline) (side : List ℕ) (o : Result (List FileRecord) SideError) → side_read side ≡ o → AreInOrder (records_meant outline o)
+records-in-order : (outline : Outline) (side : List ℕ) (o : Result (List FileRecord) SideError) → plain_read side ≡ o → AreInOrder (records_meant outline o)
 unfolding records_meant
-records-in-order outline side (Ok records) is = subst AreNames (sym (names-meant (content_meant outline) records)) (front-in-order _ (names_of records) (names_in_order side records is))
+records-in-order outline side (Ok records) is = subst AreNames (sym (names-meant (content_meant outline) records)) (front-in-order _ (names_of records) (names_in_order side records (plain-read side records is)))
 records-in-order outline side (Err error) is = no-names
 
 side-in-order : (outline : Outline) (o : Option Attached) → AreInOrder (side_meant outline o)
 unfolding side_meant
 side-in-order outline None = no-names
-side-in-order outline (Some side) = records-in-order outline side.content (side_read side.content) refl
+side-in-order outline (Some side) = records-in-order outline side.content (plain_read side.content) refl
 
 outline-in-order : (o : Result Outline OutlineFault) → AreInOrder (outline_meant o)
 unfolding outline_meant

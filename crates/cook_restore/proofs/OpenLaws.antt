@@ -8,7 +8,7 @@ use Rattle.std.specs.Option.{option_map}
 use Rattle.std.specs.FinMap.{get}
 use Rattle.shelf_core.specs.Told.{Told, IsTold, HasFile, IsFree, content, length_of}
 use Rattle.shelf_core.specs.declared.pieces.PieceError.TheVariants as piece
-use Rattle.reversal.specs.SideReading.{side_read, FailsSide}
+use Rattle.reversal.specs.SideReading.{FailsSide}
 use Rattle.reversal.specs.declared.error.SideError.{SideError}
 use Rattle.reversal.specs.declared.error.SideError.TheVariants as side
 use Rattle.reversal.specs.declared.record.FileRecord.{FileRecord}
@@ -17,6 +17,7 @@ use Rattle.matroska_read.specs.Inside.{EndsBy, KeepsWithin}
 use Rattle.cook_restore.specs.Meaning.{meaning_of, outline_meant, side_meant, records_meant, nothing_for, why_of_outline, why_of_side, side_seen}
 use Rattle.matroska_read.specs.Outline.{places_of}
 use Rattle.matroska_read.specs.Places.{Places, attached_at, outline_at, bytes_at}
+use Rattle.cook_restore.specs.Plain.{plain_read}
 use Rattle.cook_restore.specs.Restoring.{AreSideRecords, IsNotOpened, IsMissing, IsRefused, IsBeforeFiles, NotRead, NotOutlined, NotRecorded}
 use Rattle.matroska_read.specs.Answered.{StopsFor, IsRefusal}
 use Rattle.cook_restore.specs.declared.error.PackageWhy.{PackageWhy}
@@ -162,27 +163,27 @@ no_side-refused told pkg places files number there outlined same is none = recor
 }
 
 -- the side data was read
-pub side-records : (told : Told) (pkg : List ℕ) (places : Places) (side : FileAt) (held : List ℕ) (records : List FileRecord) → side_of places.files ≡ Some side → (IsTold told → held ≡ bytes_at side (content told pkg)) → side_read held ≡ Ok records
+pub side-records : (told : Told) (pkg : List ℕ) (places : Places) (side : FileAt) (held : List ℕ) (records : List FileRecord) → side_of places.files ≡ Some side → (IsTold told → held ≡ bytes_at side (content told pkg)) → plain_read held ≡ Ok records
     → IsTold told → AreSideRecords (outline_at places (content told pkg)) records
 side-records told pkg places side held records is_side bytes read known = record {
   side = attached_at (content told pkg) side;
   is_side = side-shown (content told pkg) places (Some side) is_side;
-  read = ap side_read (sym (bytes known)) ∙ read;
+  read = ap plain_read (sym (bytes known)) ∙ read;
 }
 
-side-meant : (bytes : List ℕ) (places : Places) (side : FileAt) (error : SideError) → places_of bytes ≡ Ok places → side_of places.files ≡ Some side → side_read (bytes_at side bytes) ≡ Err error → meaning_of bytes ≡ nothing_for (why_of_side error)
+side-meant : (bytes : List ℕ) (places : Places) (side : FileAt) (error : SideError) → places_of bytes ≡ Ok places → side_of places.files ≡ Some side → plain_read (bytes_at side bytes) ≡ Err error → meaning_of bytes ≡ nothing_for (why_of_side error)
 unfolding meaning_of outline_meant side_meant records_meant
 side-meant bytes places side error is is_side read =
     ap outline_meant (outline-is bytes places is) ∙ ap (side_meant (outline_at places bytes)) (side-shown bytes places (Some side) is_side) ∙ ap (records_meant (outline_at places bytes)) read
 
 -- or it is faulty
 pub recorded-not_opened : (told : Told) (pkg : List ℕ) (places : Places) (side : FileAt) (held : List ℕ) (faults faults_now : ℕ) (error : SideError) (answer : RestoreError) → HasFile told pkg → (IsTold told → places_of (content told pkg) ≡ Ok places)
-    → side_of places.files ≡ Some side → (IsTold told → held ≡ bytes_at side (content told pkg)) → FailsSide error (side_read held) → NotRecorded error answer → IsNotOpened told pkg faults faults_now answer
+    → side_of places.files ≡ Some side → (IsTold told → held ≡ bytes_at side (content told pkg)) → FailsSide error (plain_read held) → NotRecorded error answer → IsNotOpened told pkg faults faults_now answer
 recorded-not_opened told pkg places found held faults faults_now (side.SideBad place) (unopened.Package why) there outlined is_side bytes fails is =
-    refused told pkg (broken.SideBad place) why is tt there (λ known. side-meant (content told pkg) places found (side.SideBad place) (outlined known) is_side (ap side_read (sym (bytes known)) ∙ fails))
+    refused told pkg (broken.SideBad place) why is tt there (λ known. side-meant (content told pkg) places found (side.SideBad place) (outlined known) is_side (ap plain_read (sym (bytes known)) ∙ fails))
 recorded-not_opened told pkg places found held faults faults_now (side.SideBad place) answer there outlined is_side bytes fails is = absurd is
 recorded-not_opened told pkg places found held faults faults_now (side.SideNames name) (unopened.Package why) there outlined is_side bytes fails is =
-    refused told pkg (broken.SideNames name) why is tt there (λ known. side-meant (content told pkg) places found (side.SideNames name) (outlined known) is_side (ap side_read (sym (bytes known)) ∙ fails))
+    refused told pkg (broken.SideNames name) why is tt there (λ known. side-meant (content told pkg) places found (side.SideNames name) (outlined known) is_side (ap plain_read (sym (bytes known)) ∙ fails))
 recorded-not_opened told pkg places found held faults faults_now (side.SideNames name) answer there outlined is_side bytes fails is = absurd is
 recorded-not_opened told pkg places found held faults faults_now side.NoMemory unopened.NoMemory there outlined is_side bytes fails is = tt
 recorded-not_opened told pkg places found held faults faults_now side.NoMemory answer there outlined is_side bytes fails is = absurd is

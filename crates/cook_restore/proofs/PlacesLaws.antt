@@ -1,14 +1,11 @@
 -- Laws of an outline by its places and by its values: what is looked up in the one stands at what is looked up in the other.
-use Rattle.std.proofs.Common.{◌≡◌, ℕ, Bool, true, false, if◌then◌else◌, List, [], ◌∷◌, map, Option, Some, None, Ok, Err, refl, sym, ap, ◌∙◌}
+use Rattle.std.proofs.Common.{◌≡◌, ℕ, Bool, true, false, if◌then◌else◌, List, [], ◌∷◌, map, Option, Some, None, refl, sym, ap, ◌∙◌}
 use Rattle.std.specs.Option.{option_map}
 use Rattle.cook_bits.specs.Names.{is_same_name}
-use Rattle.shelf_reader.specs.Readings.{answers, thence, thence_of}
 use Rattle.reversal.specs.declared.record.FileRecord.{FileRecord}
 use Rattle.cook_restore.specs.Contents.{side_of, others_of, attached_as, place_or, content_place, content_found}
 use Rattle.cook_restore.specs.Meaning.{side_seen, others_seen, seen_as, content_of_file, content_meant}
-use Rattle.matroska_read.specs.Outline.{places_of, outline_of}
 use Rattle.matroska_read.specs.Places.{Places, Attached, bytes_at, attached_at, outline_at}
-use Rattle.matroska_read.specs.declared.error.OutlineFault.{OutlineFault}
 use Rattle.matroska_read.specs.declared.files.FileAt.{FileAt}
 
 -- ---- looked up among the files

@@ -2,4 +2,5 @@
 pub mod Contents
 pub mod Giving
 pub mod Meaning
+pub mod Plain
 pub mod Restoring

@@ -4,7 +4,6 @@ use Rattle.std.specs.Prelude.{ℕ, nat_eq, ◌==◌, Bool, if◌then◌else◌, 
 use Rattle.std.specs.Cmp.Lexicographic.{pointwise}
 use Rattle.md5.specs.Md5.{md5}
 use Rattle.cook_bits.specs.Names.{File, is_same_name}
-use Rattle.reversal.specs.SideReading.{side_read}
 use Rattle.reversal.specs.declared.record.FileRecord.{FileRecord}
 use Rattle.reversal.specs.declared.error.SideError.{SideError}
 use Rattle.reversal.specs.declared.error.SideError.TheVariants as side
@@ -12,6 +11,7 @@ use Rattle.matroska_read.specs.Outline.{outline_of}
 use Rattle.matroska_read.specs.Places.{Attached, Outline}
 use Rattle.matroska_read.specs.declared.error.OutlineFault.{OutlineFault}
 use Rattle.matroska_read.specs.declared.error.OutlineFault.TheVariants as outlined
+use Rattle.cook_restore.specs.Plain.{plain_read}
 use Rattle.cook_restore.specs.declared.error.FileWhy.{FileWhy}
 use Rattle.cook_restore.specs.declared.error.FileWhy.TheVariants as file
 use Rattle.cook_restore.specs.declared.error.PackageWhy.{PackageWhy}
@@ -91,7 +91,7 @@ records_meant outline (Err error) = nothing_for (why_of_side error)
 
 unfoldable pub side_meant : Outline → Option Attached → Meaning
 side_meant outline None = nothing_for faults.NoSide
-side_meant outline (Some side) = records_meant outline (side_read side.content)
+side_meant outline (Some side) = records_meant outline (plain_read side.content)
 
 unfoldable pub outline_meant : Result Outline OutlineFault → Meaning
 outline_meant (Ok outline) = side_meant outline (side_seen outline.files)

@@ -11,7 +11,6 @@ use Rattle.shelf_core.specs.declared.shelf.ShelfError.{ShelfError}
 use Rattle.shelf_core.specs.declared.shelf.ShelfError.TheVariants as shelf
 use Rattle.shelf_core.specs.declared.pieces.PieceError.{PieceError}
 use Rattle.shelf_core.specs.declared.pieces.PieceError.TheVariants as piece
-use Rattle.reversal.specs.SideReading.{side_read}
 use Rattle.reversal.specs.declared.error.SideError.{SideError}
 use Rattle.reversal.specs.declared.error.SideError.TheVariants as side
 use Rattle.reversal.specs.SideData.{names_of}
@@ -21,6 +20,7 @@ use Rattle.cook_restore.specs.Meaning.{Meaning, meaning_of, side_seen, nothing_f
 use Rattle.matroska_read.specs.Outline.{places_of}
 use Rattle.matroska_read.specs.Places.{Places, Attached, Outline, bytes_at, outline_at}
 use Rattle.matroska_read.specs.declared.files.FileAt.{FileAt}
+use Rattle.cook_restore.specs.Plain.{plain_read}
 use Rattle.cook_restore.specs.declared.error.FileWhy.{FileWhy}
 use Rattle.cook_restore.specs.declared.error.PackageWhy.{PackageWhy}
 use Rattle.cook_restore.specs.declared.error.PackageWhy.TheVariants as faults
@@ -39,7 +39,7 @@ use Rattle.cook_restore.specs.declared.restorer.FileSum.{FileSum}
 pub record AreSideRecords (outline : Outline) (records : List FileRecord) : Type 0 where
   pub side : Attached
   pub is_side : side_seen outline.files ≡ Some side
-  pub read : side_read side.content ≡ Ok records
+  pub read : plain_read side.content ≡ Ok records
 
 -- A restorer fits the bytes of a package: its length, its outline and its records are theirs, and none of the files before
 -- its next is faulty.

@@ -8,6 +8,7 @@ mod giving;
 pub mod laws;
 mod next;
 mod opening;
+mod plain;
 mod restorer;
 mod stop;
 

@@ -8,6 +8,7 @@ ghost use Rattle.cook_restore.specs.Restoring.{AreBytesOf, AreRecordsOf, IsOutli
 
 use crate::contents::{contents_of, side_number};
 use crate::folders::tree_of;
+use crate::plain::plain_records;
 use crate::{PackageWhy, RestoreError, Restorer};
 use cook_bits::{Name, NoMemory};
 use matroska_read::{FileAt, Outline, OutlineError, outline};
@@ -152,7 +153,7 @@ fn package_records<S: Shelf>(
         return Err(RestoreError::Package(PackageWhy::NoSide));
     };
     let bytes = attached_bytes(alloc, shelf, pkg, len, &files[number])?;
-    match reversal::read(alloc, bytes.as_slice()) {
+    match plain_records(alloc, bytes.as_slice()) {
         Ok(records) => Ok(records),
         Err(error) => Err(not_recorded(error)),
     }

@@ -3,8 +3,8 @@ use Rattle.std.proofs.Common.{◌≡◌, ℕ, ◌+◌, ◌-◌, ◌^◌, ◌≤�
 use Rattle.ebml_core.specs.Element.{head_of, element, uint_element, uint_bytes}
 use Rattle.ebml_core.specs.Heads.{length-element, length-head_of-le, length-uint_bytes, length-uint_element-le, byte_count-le}
 use Rattle.matroska_names.specs.declared.ids.TheConstants.{ATTACHED_FILE, FILE_DATA, FILE_MEDIA_TYPE, FILE_NAME, FILE_UID}
-use Rattle.cook_pack.specs.Pieces.{media_type, attached_fields, attached_file}
-use Rattle.cook_pack.specs.PieceLaws.{length-attached_fields}
+use Rattle.matroska_write.specs.Attached.{media_type, attached_fields, attached_file}
+use Rattle.matroska_write.specs.AttachedLaws.{length-attached_fields}
 use Rattle.matroska_read.specs.declared.parts.Element.{Element}
 use Rattle.matroska_read.specs.declared.parts.Fields.{Fields}
 use Rattle.matroska_read.specs.declared.files.FileAt.{FileAt}

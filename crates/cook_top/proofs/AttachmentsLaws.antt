@@ -9,9 +9,9 @@ use Rattle.md5.proofs.StandardFacts.{length-md5}
 use Rattle.cook_bits.specs.Names.{File, IsRelativeName}
 use Rattle.ebml_core.specs.Element.{element}
 use Rattle.matroska_names.specs.declared.ids.TheConstants.{ATTACHED_FILE, ATTACHMENTS}
-use Rattle.reversal.specs.SideData.{HasSum, names_of, side_data_len, side_data_of}
-use Rattle.reversal.specs.Lengths.{length_is}
-use Rattle.cook_pack.specs.Pieces.{attached_file}
+use Rattle.reversal.specs.SideData.{HasSum, IsOther, names_of, side_data_len, side_data_of}
+use Rattle.reversal.specs.Lengths.{length_of_others}
+use Rattle.matroska_write.specs.Attached.{attached_file}
 use Rattle.cook_pack.specs.Package.{attached_from, attachments_of, other_record}
 use Rattle.cook_pack.proofs.PlannedLaws.{others-all, short_name}
 use Rattle.matroska_read.specs.declared.parts.Element.{Element}
@@ -69,10 +69,11 @@ side_data_len-le names relative =
 
 pub length-side_data-le : (directory : List File) → All IsRelativeName (file_names directory) → length (side_data_of (map other_record directory)) ≤ 12 + length directory * 1051
 length-side_data-le directory relative =
+    let others : All IsOther (map other_record directory) = All-map IsOther other_record directory (λ k d h. refl) in
     let summed : All HasSum (map other_record directory) = All-map HasSum other_record directory (λ k d h. length-md5 _) in
     let count : length (file_names directory) ≡ length directory = length-map directory (λ (file : File). file.0) in
     let most = side_data_len-le (file_names directory) (recursion_from_All IsRelativeName _ relative) in
-    omega (arith, length_is (map other_record directory) summed, ap side_data_len (names-recorded directory))
+    omega (arith, length_of_others (map other_record directory) others summed, ap side_data_len (names-recorded directory))
 
 -- ---- the files
 

@@ -4,13 +4,13 @@ use Rattle.std.specs.Int.Count.{count_leading_zeros}
 use Rattle.ebml_core.specs.Element.{element, uint_element, head_of, uint_bytes, size_bytes, shortest_size, byte_count, least_from}
 use Rattle.ebml_core.specs.Reading.{head_at, id_at, size_at, size_meant, vint_len}
 use Rattle.ebml_core.specs.declared.parts.Size.TheVariants.{Unknown}
-use Rattle.cook_pack.specs.Pieces.{ebml_content, unknown_size}
+use Rattle.matroska_write.specs.Header.{ebml_content, unknown_size}
 use Rattle.shelf_reader.specs.Readings.{gives, looks, thence_of, thence}
 use Rattle.shelf_reader.specs.Seen.{is_text_between}
 use Rattle.shelf_reader.specs.Walk.{walked_within, walked}
 use Rattle.matroska_names.specs.declared.ids.TheConstants.{EBML, SEGMENT}
 use Rattle.matroska_read.specs.Walk.{head_in, sized, element_of, element_in, walked_children}
-use Rattle.cook_pack.specs.PieceLaws.{short_ebml}
+use Rattle.matroska_write.specs.HeaderLaws.{short_ebml}
 use Rattle.ebml_core.specs.Heads.{length-element}
 use Rattle.matroska_read.specs.Outline.{header_of, no_doc_type, is_understood, bounds_of, is_number_understood, number_visited, visit_header}
 use Rattle.matroska_read.proofs.SpelledWalk.{IsSpelled, spelled, element_in-spelled, header_of-read}

@@ -4,10 +4,10 @@ use Rattle.cook_bits.specs.Names.{File}
 use Rattle.ebml_core.specs.Element.{element, uint_bytes, byte_count, least_from}
 use Rattle.matroska_names.specs.declared.ids.TheConstants.{ATTACHMENTS, EBML, INFO, SEGMENT}
 use Rattle.cook_pack.specs.Offence.{IsInProfile}
-use Rattle.cook_pack.specs.Pieces.{ebml_content, info_content, unknown_size, header_bytes}
+use Rattle.matroska_write.specs.Header.{ebml_content, info_content, unknown_size, header_bytes}
 use Rattle.cook_pack.specs.Package.{attachments_bytes, attachments_of, others_of, other_record, package_of}
 use Rattle.cook_pack.proofs.PlannedLaws.{others-all}
-use Rattle.cook_pack.specs.PieceLaws.{short_info}
+use Rattle.matroska_write.specs.HeaderLaws.{short_info}
 use Rattle.matroska_read.specs.declared.parts.Element.{Element}
 use Rattle.shelf_reader.specs.Readings.{gives}
 use Rattle.shelf_reader.specs.Walk.{walked}

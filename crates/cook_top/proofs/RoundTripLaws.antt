@@ -13,9 +13,10 @@ use Rattle.md5.specs.Md5.{md5}
 use Rattle.md5.proofs.StandardFacts.{length-md5}
 use Rattle.cook_bits.specs.Names.{File, is_same_name}
 use Rattle.reversal.specs.declared.record.FileRecord.{FileRecord}
-use Rattle.reversal.specs.SideData.{HasShape, FitsTypes, AreNames, AreRecords, names_of, side_data_of}
-use Rattle.reversal.specs.SideReading.{side_read}
+use Rattle.reversal.specs.SideData.{HasShape, IsOther, FitsTypes, AreNames, AreRecords, names_of, side_data_of}
 use Rattle.reversal.proofs.Round.{read_again}
+use Rattle.cook_restore.specs.Plain.{plain_read}
+use Rattle.cook_restore.proofs.PlainLaws.{plain-all}
 use Rattle.cook_pack.specs.Offence.{IsInProfile}
 use Rattle.cook_pack.specs.Package.{package_of, other_record}
 use Rattle.cook_pack.proofs.PlannedLaws.{others-all}
@@ -94,14 +95,18 @@ files_given find (file ∷ directory) given = rw (given.0, files_given find dire
 
 -- ---- the side data is read
 
+plain : (directory : List File) → AllByRecursion IsOther (map other_record directory)
+plain [] = tt
+plain (file ∷ directory) = (refl, plain directory)
+
 shapes : (directory : List File) → AllByRecursion IsSmall directory → AllByRecursion HasShape (map other_record directory)
 shapes [] small = tt
-shapes (file ∷ directory) small = (record { other = refl; no_head = refl; no_pads = refl; no_tail = refl; in_two = let short = small.0.name in omega arith }, shapes directory small.1)
+shapes (file ∷ directory) small = (record { parts = record { no_head = refl; no_pads = refl; no_tail = refl }; in_two = let short = small.0.name in omega arith }, shapes directory small.1)
 
 types : (directory : List File) → AllByRecursion IsSmall directory → AllByRecursion IsUtf8 (file_names directory) → AllByRecursion FitsTypes (map other_record directory)
 types [] small texts = tt
 types (file ∷ directory) small texts =
-    (record { text = texts.0; in_eight = let short = small.0.content in omega arith; sixteen = length-md5 file.1 }, types directory small.1 texts.1)
+    (record { text = texts.0; in_eight = let short = small.0.content in omega arith; sixteen = length-md5 file.1; head_in_eight = omega arith; tail_in_eight = omega arith }, types directory small.1 texts.1)
 
 records_named : (directory : List File) → IsDirectory directory → Keeps directory → AreNames (names_of (map other_record directory))
 records_named directory is keeps =
@@ -114,13 +119,14 @@ are_records directory is keeps = record {
   named = records_named directory is keeps;
 }
 
-side_read_again : (directory : List File) → IsDirectory directory → Keeps directory → side_read (side_data_of (map other_record directory)) ≡ Ok (map other_record directory)
+side_read_again : (directory : List File) → IsDirectory directory → Keeps directory → plain_read (side_data_of (map other_record directory)) ≡ Ok (map other_record directory)
 side_read_again directory is keeps =
-    read_again (map other_record directory) (are_records directory is keeps) (All-from_recursion FitsTypes _ (types directory (small_files directory keeps) (recursion_from_All IsUtf8 _ is.texts)))
+    plain-all (side_data_of (map other_record directory)) (map other_record directory) (plain directory)
+    (read_again (map other_record directory) (are_records directory is keeps) (All-from_recursion FitsTypes _ (types directory (small_files directory keeps) (recursion_from_All IsUtf8 _ is.texts))))
 
 -- ---- the whole
 
-meaning_by : (bytes : List ℕ) (outline : Outline) (side : Attached) (records : List FileRecord) → outline_of bytes ≡ Ok outline → side_seen outline.files ≡ Some side → side_read side.content ≡ Ok records → meaning_of bytes ≡ files_meant (content_meant outline) records
+meaning_by : (bytes : List ℕ) (outline : Outline) (side : Attached) (records : List FileRecord) → outline_of bytes ≡ Ok outline → side_seen outline.files ≡ Some side → plain_read side.content ≡ Ok records → meaning_of bytes ≡ files_meant (content_meant outline) records
 unfolding meaning_of outline_meant side_meant records_meant
 meaning_by bytes outline side records outlined of_side read = rw (outlined, of_side, read) refl
 

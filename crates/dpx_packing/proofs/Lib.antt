@@ -6,6 +6,7 @@ pub mod FrameRounds
 pub mod Masks
 pub mod Numbers
 pub mod PadChoice
+pub mod PadEnds
 pub mod PadFilling
 pub mod PadRound
 pub mod PadRuns

@@ -25,12 +25,12 @@ runs_at-split (suc i) k bytes =
     let rest : drop (5 * suc i) bytes ≡ drop (5 * i) (drop 5 bytes) = ap (λ (n : ℕ). drop n bytes) (omega arith) ∙ sym (drop-drop (5 * i) 5 bytes) in
     rw (count, rest, runs_at-split i k (drop 5 bytes)) refl
 
-runs_at-next : (i : ℕ) (bytes : List ℕ) → runs_at (i + 1) bytes ≡ runs_at i bytes ++ run_of bytes i ∷ []
+pub runs_at-next : (i : ℕ) (bytes : List ℕ) → runs_at (i + 1) bytes ≡ runs_at i bytes ++ run_of bytes i ∷ []
 unfolding runs_at
 runs_at-next i bytes = runs_at-split i 1 bytes
 
 -- the runs before one, that one, and those after it
-runs_at-around : (i count : ℕ) (bytes : List ℕ) → i < count → (others : List Run) × (runs_at count bytes ≡ runs_at i bytes ++ run_of bytes i ∷ others)
+pub runs_at-around : (i count : ℕ) (bytes : List ℕ) → i < count → (others : List Run) × (runs_at count bytes ≡ runs_at i bytes ++ run_of bytes i ∷ others)
 unfolding runs_at
 runs_at-around i count bytes h =
     let n : count ≡ i + suc (count - (i + 1)) = omega arith in

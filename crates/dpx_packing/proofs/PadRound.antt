@@ -44,14 +44,14 @@ each_of-runs_of (value ∷ values) = before-each value (runs_of values) (each_of
 
 -- ---- runs are read as they were written
 
-number_back : (number : ℕ) (rest : List ℕ) → number < 2 ^ 32 → big_number 4 (bytes_high_first 4 number ++ rest) ≡ number
+pub number_back : (number : ℕ) (rest : List ℕ) → number < 2 ^ 32 → big_number 4 (bytes_high_first 4 number ++ rest) ≡ number
 number_back number rest h = big_number-reads_back 4 number rest h
 
 length-values_of-cons : (run : Run) (runs : List Run) → length (values_of (run ∷ runs)) ≡ run.times + length (values_of runs)
 unfolding values_of
 length-values_of-cons run runs = omega (arith, length-append (replicate run.times run.value) (values_of runs), length-replicate run.times run.value)
 
-runs_at-spelled : (runs : List Run) → length (values_of runs) < 2 ^ 32 → runs_at (length runs) (flat_map run_bytes runs) ≡ runs
+pub runs_at-spelled : (runs : List Run) → length (values_of runs) < 2 ^ 32 → runs_at (length runs) (flat_map run_bytes runs) ≡ runs
 unfolding runs_at
 runs_at-spelled [] h = refl
 runs_at-spelled (run ∷ runs) h =
@@ -92,7 +92,7 @@ unfolding pads_read
 zeros_are_read count = refl
 
 -- runs are no more than the values that they stand for
-fewer_runs : (runs : List Run) → list_all is_run runs ≡ true → length runs ≤ length (values_of runs)
+pub fewer_runs : (runs : List Run) → list_all is_run runs ≡ true → length runs ≤ length (values_of runs)
 fewer_runs [] each = omega arith
 fewer_runs (run ∷ runs) each =
     let some : 0 < run.times = ltb-true 0 run.times (and_parts _ _ each).0 in

@@ -1,4 +1,5 @@
 pub mod Blocks
+pub mod FormEnds
 pub mod FrameParts
 pub mod Laws
 pub mod Line

@@ -7,7 +7,7 @@
 --
 -- with big-endian numbers. The first doesn't tell how many pads there are: that follows from the
 -- frame's layout. The values are those of this project's own side data; no public standard has them.
-use Rattle.std.specs.Prelude.{ℕ, zero, suc, ◌+◌, ◌*◌, ◌==◌, ◌&&◌, Bool, nat_lt, nat_le, if◌then◌else◌, List, [], ◌∷◌, ◌++◌, length, drop, slice_index, replicate, Option, Some, None}
+use Rattle.std.specs.Prelude.{◌≡◌, ℕ, zero, suc, ◌+◌, ◌*◌, ◌==◌, ◌&&◌, Bool, nat_lt, nat_le, if◌then◌else◌, List, [], ◌∷◌, ◌++◌, length, drop, slice_index, replicate, Option, Some, None}
 use Rattle.std.specs.List.{flat_map, list_all}
 use Rattle.std.specs.Int.{bytes_high_first}
 use Rattle.byteorder.specs.Endian.{big_number}
@@ -90,3 +90,28 @@ pads_read (kind ∷ body) count =
     else if kind == 1 then runs_read body count
     else if kind == 2 then values_read body count
     else None
+
+-- ---- where a form ends, in bytes that begin with one
+
+-- the length of the form by runs whose body the bytes begin with
+unfoldable pub runs_len : List ℕ → Option ℕ
+runs_len body =
+    let runs = big_number 4 body in
+    if nat_le (4 + 5 * runs) (length body) && list_all is_run (runs_at runs (drop 4 body)) then Some (5 + 5 * runs) else None
+
+-- of the form by values
+unfoldable pub values_len : List ℕ → Option ℕ
+values_len body = let count = big_number 4 body in if nat_le (4 + count) (length body) then Some (5 + count) else None
+
+-- the length of the form that the bytes begin with; none where they begin with no whole form
+unfoldable pub pad_form_len : List ℕ → Option ℕ
+pad_form_len [] = None
+pad_form_len (kind ∷ body) =
+    if kind == 0 then Some 1
+    else if kind == 1 then runs_len body
+    else if kind == 2 then values_len body
+    else None
+
+-- the bytes are one whole form
+abbrev pub IsPadForm : List ℕ → Type 0
+IsPadForm form = pad_form_len form ≡ Some (length form)

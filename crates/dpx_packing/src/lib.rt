@@ -6,6 +6,7 @@ mod blocks;
 mod frame;
 pub mod laws;
 mod line;
+mod pad_end;
 mod pad_filling;
 mod pad_form;
 pub mod pad_laws;
@@ -17,7 +18,8 @@ mod tiling;
 mod units;
 
 pub use frame::{join, pads_fit, split};
+pub use pad_end::pad_form_len;
 pub use pad_filling::{PadBad, pad_fill};
 pub use pad_form::pad_record;
 pub use tile::Tile;
-pub use tiling::{from_tiles, to_tiles};
+pub use tiling::{are_whole_lines, from_tiles, to_tiles};

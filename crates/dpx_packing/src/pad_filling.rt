@@ -64,8 +64,8 @@ fn fill_runs(body: &[u8], out: &mut [u8]) -> Result<(), PadBad>
     fill_each(runs, count, out)
 }
 
-// The bytes of a run: how many times, and the value.
-fn run_at(runs: &[u8], i: usize) -> (usize, u8)
+/// The bytes of a run: how many times, and the value.
+pub(crate) fn run_at(runs: &[u8], i: usize) -> (usize, u8)
     requires { 5 * i + 5 ≤ length runs.now }
     ensures times { result.0 ≡ big_number 4 (drop (5 * i) runs.now) }
     ensures value { result.1 ≡ slice_index (drop (5 * i) runs.now) 4 }

@@ -70,8 +70,9 @@ fn has_whole_lines(layout: &Layout, tile: &Tile, from: u32) -> bool
     tile.x == 0 && tile.width == layout.width && tile.y == from
 }
 
-// Whether the tiles have whole lines of the picture, in order.
-fn are_whole_lines(layout: &Layout, tiles: &[Tile]) -> bool
+/// Whether the tiles have whole lines of the picture, in order, so that its samples and the buffer are the same. It takes no
+/// memory.
+pub fn are_whole_lines(layout: &Layout, tiles: &[Tile]) -> bool
     requires well_formed { IsWellFormed layout.now }
     requires inside { All (λ tile. IsInside layout.now.width layout.now.height tile) tiles.now }
     ensures { result ≡ are_lines layout.now.width layout.now.height 0 tiles.now }

@@ -2,6 +2,7 @@ mod CellCover
 pub mod CutLaws
 mod EdgeLaws
 mod FilmLaws
+mod FitLaws
 mod FooterLaws
 pub mod HeadLaws
 pub mod Marking

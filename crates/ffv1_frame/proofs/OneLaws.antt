@@ -98,7 +98,7 @@ one-tile one params grid k slice here there picture other sound are of begins sa
     let P : SliceHead → Type 0 = λ h. CodesTile params grid k slice h (tile_samples grid.width other (tile_of grid h)) in
     (one params (k == 0) (tile_of grid here).width (tile_of grid here).height slice here here (tile_samples grid.width picture (tile_of grid here)) (tile_samples grid.width other (tile_of grid here)) sound are pixels.wide codes (subst P same codes')).1
 
-after-same : (across : ℕ) (tiles : List Tile) (xs ys : List ℕ) → ((k : ℕ) → k < length tiles → tile_samples across xs (tile_at tiles k) ≡ tile_samples across ys (tile_at tiles k))
+pub after-same : (across : ℕ) (tiles : List Tile) (xs ys : List ℕ) → ((k : ℕ) → k < length tiles → tile_samples across xs (tile_at tiles k) ≡ tile_samples across ys (tile_at tiles k))
     → tile_after_tile across tiles xs ≡ tile_after_tile across tiles ys
 unfolding tile_after_tile
 after-same across [] xs ys each = refl

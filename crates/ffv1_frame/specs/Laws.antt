@@ -42,6 +42,12 @@ PictureIsOne =
     (params : Parameters) (grid : Grid) (bytes picture other : List ℕ) → AreSound params → AreBytes bytes → IsGridOf params grid
     → IsPictureOf params grid bytes picture → IsPictureOf params grid bytes other → picture ≡ other
 
+-- a picture that bytes mean is one of the grid's size and the parameters' bits
+abbrev pub PictureFits : Type 0
+PictureFits =
+    (params : Parameters) (grid : Grid) (bytes picture : List ℕ) → IsGridOf params grid → IsPictureOf params grid bytes picture
+    → IsPictureIn params.bits grid.width grid.height picture
+
 -- The tiles of the writer's grid are whole lines in order and cover the picture, their samples are tiles that slices code,
 -- the slices are few bytes, and a written frame is cut into these tiles.
 pub record FilmTilesStand : Type 0 where

@@ -7,8 +7,8 @@ ghost use Rattle.ffv1_frame.specs.Footers.{footed, frame_of_slices};
 use cook_bits::{Bytes, NoMemory, crc32_high};
 use std::alloc::Global;
 
-// The bytes of a footer.
-const FOOTER: usize = 8;
+/// The bytes that `append_slice` adds behind a slice.
+pub const FOOTER_LEN: usize = 8;
 
 /// The frame of coded slices: each with its size, no error, and the parity of its bytes. Each is shorter than 2^24 bytes.
 pub fn assemble(alloc: Global, slices: &[Bytes]) -> Result<Bytes, NoMemory>
@@ -26,13 +26,15 @@ pub fn assemble(alloc: Global, slices: &[Bytes]) -> Result<Bytes, NoMemory>
 fn room_for(slices: &[Bytes]) -> usize {
     let mut room = 0usize;
     for slice in slices {
-        room = room.saturating_add(slice.as_slice().len().saturating_add(FOOTER));
+        room = room.saturating_add(slice.as_slice().len().saturating_add(FOOTER_LEN));
     }
     room
 }
 
+/// Adds a coded slice to a frame: its bytes, their count, no error, and the parity of all these. After a refusal the frame has
+/// a part of it.
 #[tactic(auto, unfolding(crate::specs::Footers::footed, crate::specs::Footers::sized))]
-fn append_slice(frame: &mut Vec<u8>, slice: &[u8]) -> Result<(), NoMemory>
+pub fn append_slice(frame: &mut Vec<u8>, slice: &[u8]) -> Result<(), NoMemory>
     requires { length slice.now < 2 ^ 24 }
     ensures { OnOk result (frame.new.items ≡ frame.old.items ++ footed slice.now) }
 {

@@ -1,6 +1,6 @@
 //! What holds of frames. Each function does nothing: its contract is the law, which a proof elsewhere can cite.
 
-ghost use Rattle.ffv1_frame.specs.Laws.{CellsCover, FilmFrameIsPicture, FilmTilesStand, FrameIsCut, PictureIsOne};
+ghost use Rattle.ffv1_frame.specs.Laws.{CellsCover, FilmFrameIsPicture, FilmTilesStand, FrameIsCut, PictureFits, PictureIsOne};
 
 /// Slices that were put together are cut off again.
 pub fn frames_are_cut()
@@ -49,4 +49,11 @@ pub fn pictures_are_one()
     dpx_packing::tile_laws::tiles_tell_the_picture();
     ffv1_slice::laws::n5();
     ffv1_slice::laws::heads_are_one();
+}
+
+/// A picture that bytes mean has the size of the grid, and its colours the bits of the parameters.
+pub fn pictures_fit()
+    ensures { PictureFits }
+{
+    dpx_packing::tile_laws::tiles_tell_the_picture();
 }

@@ -14,7 +14,7 @@ mod part;
 mod picture;
 mod sharing;
 
-pub use assembling::assemble;
+pub use assembling::{FOOTER_LEN, append_slice, assemble};
 pub use cells::Grid;
 pub use cutting::cut;
 pub use error::FrameWhy;

@@ -5,18 +5,18 @@ use Rattle.std.specs.Prelude.{IsTrue}
 use Rattle.ffv1_params.specs.Parameters.{is_depth}
 use Rattle.ffv1_slice.specs.Below.{IsHalf}
 
-half_at : (half : ℕ) → half ≡ 2 * (half / 2) → 256 ≤ half → half ≤ 65536 → IsHalf half
-half_at half even least most = record { even = even; least = least; most = most }
+half_at : (bits : ℕ) → bits ≤ 16 → 2 ^ bits ≡ 2 * (2 ^ bits / 2) → 256 ≤ 2 ^ bits → 2 ^ bits ≤ 65536 → IsHalf (2 ^ bits)
+half_at bits few even least most = record { bits = bits; few = few; power = refl; even = even; least = least; most = most }
 
 pub depth_half : (bits : ℕ) → IsTrue (is_depth bits) → IsHalf (2 ^ bits)
 depth_half bits d = elim (cases_eq bits 8) as (λ _. IsHalf (2 ^ bits)) [
-  | inl e ↦ subst (λ (n : ℕ). IsHalf (2 ^ n)) (sym e) (half_at (2 ^ 8) refl (omega arith) (omega arith))
+  | inl e ↦ subst (λ (n : ℕ). IsHalf (2 ^ n)) (sym e) (half_at 8 (omega arith) refl (omega arith) (omega arith))
   | inr not8 ↦ elim (cases_eq bits 10) as (λ _. IsHalf (2 ^ bits)) [
-    | inl e ↦ subst (λ (n : ℕ). IsHalf (2 ^ n)) (sym e) (half_at (2 ^ 10) refl (omega arith) (omega arith))
+    | inl e ↦ subst (λ (n : ℕ). IsHalf (2 ^ n)) (sym e) (half_at 10 (omega arith) refl (omega arith) (omega arith))
     | inr not10 ↦ elim (cases_eq bits 12) as (λ _. IsHalf (2 ^ bits)) [
-      | inl e ↦ subst (λ (n : ℕ). IsHalf (2 ^ n)) (sym e) (half_at (2 ^ 12) refl (omega arith) (omega arith))
+      | inl e ↦ subst (λ (n : ℕ). IsHalf (2 ^ n)) (sym e) (half_at 12 (omega arith) refl (omega arith) (omega arith))
       | inr not12 ↦ elim (cases_eq bits 16) as (λ _. IsHalf (2 ^ bits)) [
-        | inl e ↦ subst (λ (n : ℕ). IsHalf (2 ^ n)) (sym e) (half_at (2 ^ 16) refl (omega arith) (omega arith))
+        | inl e ↦ subst (λ (n : ℕ). IsHalf (2 ^ n)) (sym e) (half_at 16 (omega arith) refl (omega arith) (omega arith))
         | inr not16 ↦
             let no8 : eqb bits 8 ≡ false = ne_eqb bits 8 not8 in
             let no10 : eqb bits 10 ≡ false = ne_eqb bits 10 not10 in

@@ -1,5 +1,5 @@
 -- What keeps sums of samples within their words.
-use Rattle.std.specs.Prelude.{◌≡◌, ℕ, ◌*◌, ◌/◌, ◌<◌, ◌≤◌, List, slice_index}
+use Rattle.std.specs.Prelude.{◌≡◌, ℕ, ◌*◌, ◌^◌, ◌/◌, ◌<◌, ◌≤◌, List, slice_index}
 use Rattle.ffv1_slice.specs.declared.around.Around.{Around}
 
 -- each number is below `most`
@@ -16,6 +16,9 @@ pub record IsBelow (most : ℕ) (a : Around) : Type 0 where
 
 -- two to the bits of a colour
 pub record IsHalf (half : ℕ) : Type 0 where
+  pub bits : ℕ
+  pub few : bits ≤ 16
+  pub power : half ≡ 2 ^ bits
   pub even : half ≡ 2 * (half / 2)
   pub least : 256 ≤ half
   pub most : half ≤ 65536

@@ -95,6 +95,17 @@ pub(crate) fn context_of(values: &[i16], flat: bool, around: Around) -> i32
     added(sum, value_of(values, 4, around.above_above, around.above))
 }
 
+// What is left of a sum, divided by 2 * half, which is a power of two.
+#[inline(always)]
+#[tactic(auto, using(crate::proofs::Residues::residues))]
+fn wrapped(half: u32, sum: u32) -> u32
+    requires half { IsHalf half }
+    ensures value { result ≡ sum % (2 * half) }
+    ensures below { result < 2 * half }
+{
+    sum & (2 * half - 1)
+}
+
 // A difference modulo 2 * half, folded into -half to half - 1.
 #[inline(always)]
 fn folded_of(half: u32, apart: u32) -> i32
@@ -103,13 +114,7 @@ fn folded_of(half: u32, apart: u32) -> i32
     ensures value { result ≡ folded half apart }
     ensures small { unsigned_abs result ≤ 65536 }
 {
-    let whole = 2 * half;
-    let residue = if apart >= whole { apart - whole } else { apart };
-    if residue < half {
-        residue as i32
-    } else {
-        residue as i32 - whole as i32
-    }
+    wrapped(half, apart + half) as i32 - half as i32
 }
 
 /// The difference with which a sample is coded.
@@ -129,35 +134,16 @@ pub(crate) fn difference_of(half: u32, negative: bool, prediction: u32, sample: 
     }
 }
 
-// What is left of a value, divided by `whole`. Most values need no division.
+// What is left of a value, divided by 2 * half.
 #[inline(always)]
 #[tactic(auto, using(crate::proofs::Residues::residues))]
-fn residue_of(whole: u32, value: i32) -> u32
-    requires some { 0 < whole }
-    requires most { whole ≤ 131072 }
+fn residue_of(half: u32, value: i32) -> u32
+    requires half { IsHalf half }
     requires value { unsigned_abs value < 2147483648 }
-    ensures value { result ≡ unsigned_abs (int_rem_euclid value (pos whole)) }
-    ensures below { result < whole }
+    ensures value { result ≡ unsigned_abs (int_rem_euclid value (pos (2 * half))) }
+    ensures below { result < 2 * half }
 {
-    let least = whole as i32;
-    if 0 <= value && value < least {
-        return value as u32;
-    }
-    if -least <= value && value < 0 {
-        return (value + least) as u32;
-    }
-    value.rem_euclid(least) as u32
-}
-
-#[inline(always)]
-fn wrapped(sum: u32, whole: u32) -> u32
-    requires some { 0 < whole }
-    requires most { whole ≤ 131072 }
-    requires sum { sum < 2 * whole }
-    ensures value { result ≡ sum % whole }
-    ensures below { result < whole }
-{
-    if sum >= whole { sum - whole } else { sum }
+    wrapped(half, value.cast_unsigned())
 }
 
 /// The sample with which a difference is read.
@@ -171,8 +157,8 @@ pub(crate) fn restored_of(half: u32, negative: bool, prediction: u32, value: i32
     ensures below { result < 2 * half }
 {
     if negative {
-        wrapped(prediction + residue_of(2 * half, -value), 2 * half)
+        wrapped(half, prediction + residue_of(half, -value))
     } else {
-        wrapped(prediction + residue_of(2 * half, value), 2 * half)
+        wrapped(half, prediction + residue_of(half, value))
     }
 }

@@ -225,3 +225,7 @@ ok-tells hold params grid bytes parts buffer (Err why) cut cover has = has
 pub on-ok : {A E : Type 0} (P : Type 0) (result : Result A E) → P → OnOk result P
 on-ok P (Ok u) holds = holds
 on-ok P (Err why) holds = tt
+
+pub ok-heads : (params : Parameters) (grid : Grid) (bytes : List ℕ) (parts : List Part) (result : Result (Unit {0}) PictureWhy) → IsGridOf params grid → IsCut params grid bytes parts
+    → OnOk result (All (λ (p : Part). IsHeadIn grid p.head) parts)
+ok-heads params grid bytes parts result of cut = on-ok (All (λ (p : Part). IsHeadIn grid p.head) parts) result (parts-in params grid bytes parts of cut)

@@ -1,9 +1,9 @@
 -- A picture coded row by row.
-use Rattle.std.proofs.Common.{◌≡◌, ℕ, zero, suc, ◌+◌, ◌-◌, ◌^◌, ◌<◌, ◌≤◌, true, List, [], ◌∷◌, ◌++◌, length, map, take, get_or, Result, Ok, Err, All, sym, ◌∙◌, ap, ap₂, subst, arith}
+use Rattle.std.proofs.Common.{◌≡◌, ℕ, zero, suc, ◌+◌, ◌-◌, ◌^◌, ◌<◌, ◌≤◌, true, List, [], ◌∷◌, ◌++◌, length, map, take, drop, get_or, Result, Ok, Err, All, refl, sym, ◌∙◌, ap, ap₂, subst, arith}
 use Rattle.std.specs.Prelude.{IfOk}
 use Rattle.std.proofs.Math.Seq.{take-add}
-use Rattle.std.proofs.lemmas.List.{append-nil, ext_get_or, get_or-map, length-map, map-append, nil_from_length, take_all, take_at}
-use Rattle.std.proofs.lemmas.List.Elements.{All-weaker}
+use Rattle.std.proofs.lemmas.List.{append-nil, drop-drop, ext_get_or, get_or-drop, get_or-map, length-map, map-append, take_all, take_more}
+use Rattle.std.proofs.lemmas.Grind.{flat_map-append}
 use Rattle.std.proofs.lemmas.List.FromFn.{length-map-range_with_len, get_or-map-range_with_len}
 use Rattle.cook_bits.specs.declared.memory.NoMemory.{NoMemory}
 use Rattle.dpx_packing.specs.declared.tile.Tile.{Tile}
@@ -12,14 +12,14 @@ use Rattle.dpx_packing.specs.Tiles.{CoverOnce, are_lines, tile_samples}
 use Rattle.ffv1_params.specs.Parameters.{Parameters, AreSound}
 use Rattle.ffv1_slice.specs.Slice.{IsTile}
 use Rattle.ffv1_frame.specs.declared.cells.Grid.{Grid}
-use Rattle.ffv1_frame.specs.Footers.{frame_of_slices}
+use Rattle.ffv1_frame.specs.Footers.{footed, frame_of_slices}
 use Rattle.ffv1_frame.specs.Grid.{IsGridOf, tile_of}
 use Rattle.ffv1_frame.specs.Laws.{IsSlice, FilmTilesStand}
 use Rattle.ffv1_frame.specs.Parts.{slice_at}
 use Rattle.ffv1_frame.specs.Written.{film_head, film_grid, film_slice, film_slices, film_frame, AreFilmOf, IsPictureIn}
 use Rattle.slice_pool.specs.Tiles.{bound, AreBounds, AreTaken, AreDone}
 use Rattle.slice_pool.specs.Tiles as pool
-use Rattle.ffv1_workers.specs.Encoding.{TakesRow, coded_row, AreCoded, AreSlices}
+use Rattle.ffv1_workers.specs.Encoding.{TakesRow, coded_row, AreCoded, AreSlices, AddsSlice, IsFrameOf, IsShortSlice, answer_of}
 use Rattle.ffv1_workers.specs.Frames.{AreStarts, row_tiles, samples_at}
 use Rattle.ffv1_workers.proofs.BufferLaws.{are-bounds, tile-is, samples-of}
 use Rattle.ffv1_workers.proofs.StartLaws.{rows-long, row-tile-at}
@@ -150,21 +150,64 @@ rows-coded params grid bounds old new answers is starts count done =
 -- ---- the slices
 
 -- an answer more that is a slice
-pub slices-more : (answers : List (Result (List ℕ) NoMemory)) (answer : Result (List ℕ) NoMemory) (found new : List (List ℕ)) (slice : List ℕ) → answer ≡ Ok slice → new ≡ found ++ slice ∷ [] → AreSlices answers found
+slices-more : (answers : List (Result (List ℕ) NoMemory)) (answer : Result (List ℕ) NoMemory) (found new : List (List ℕ)) (slice : List ℕ) → answer ≡ Ok slice → new ≡ found ++ slice ∷ [] → AreSlices answers found
     → AreSlices (answers ++ answer ∷ []) new
 slices-more answers answer found new slice is added so_far =
     ap₂ (λ (rs : List (Result (List ℕ) NoMemory)) (r : Result (List ℕ) NoMemory). rs ++ r ∷ []) so_far is
     ∙ sym (map-append (λ (s : List ℕ). Ok s) found (slice ∷ []))
     ∙ ap (λ (ss : List (List ℕ)). map (λ (s : List ℕ). Ok s) ss) (sym added)
 
--- all answers, where none is left
-pub slices-end : (answers left given all : List (Result (List ℕ) NoMemory)) (found : List (List ℕ)) → answers ++ left ≡ given → length left ≡ 0 → given ≡ all → AreSlices answers found → AreSlices all found
-slices-end answers left given all found rest none is so_far =
-    sym is
-    ∙ sym rest
-    ∙ ap (λ (rs : List (Result (List ℕ) NoMemory)). answers ++ rs) (nil_from_length left none)
-    ∙ append-nil answers
-    ∙ so_far
+-- ---- their frame
+
+-- an answer is the one that was given, as long as it wasn't taken
+pub answer-stands : (answers given : List (Result (List ℕ) NoMemory)) (i : ℕ) → drop i answers ≡ drop i given → answer_of answers i ≡ answer_of given i
+answer-stands answers given i rest =
+    let d : Result (List ℕ) NoMemory = Ok [] in
+    let here : i + 0 ≡ i = omega arith in
+    ap (λ n. get_or answers n d) (sym here)
+    ∙ sym (get_or-drop i answers 0 d)
+    ∙ ap (λ (rs : List (Result (List ℕ) NoMemory)). get_or rs 0 d) rest
+    ∙ get_or-drop i given 0 d
+    ∙ ap (λ n. get_or given n d) here
+
+rest-on : (answers given : List (Result (List ℕ) NoMemory)) (i : ℕ) → drop i answers ≡ drop i given → drop (i + 1) answers ≡ drop (i + 1) given
+rest-on answers given i rest =
+    sym (drop-drop 1 i answers) ∙ ap (λ (rs : List (Result (List ℕ) NoMemory)). drop 1 rs) rest ∙ drop-drop 1 i given
+
+pub rest-next : (answers new given : List (Result (List ℕ) NoMemory)) (i : ℕ) → drop (i + 1) new ≡ drop (i + 1) answers → drop i answers ≡ drop i given → drop (i + 1) new ≡ drop (i + 1) given
+rest-next answers new given i same rest = same ∙ rest-on answers given i rest
+
+pub short-stands : (answers given : List (Result (List ℕ) NoMemory)) (i : ℕ) → All IsShortSlice given → i < length given → drop i answers ≡ drop i given → IsShortSlice (answer_of answers i)
+short-stands answers given i short listed rest =
+    let d : Result (List ℕ) NoMemory = Ok [] in
+    subst IsShortSlice (sym (answer-stands answers given i rest)) (short i d listed)
+
+pub frame-none : (given : List (Result (List ℕ) NoMemory)) (frame : List ℕ) → frame ≡ [] → IsFrameOf (take 0 given) frame
+unfolding frame_of_slices
+frame-none given frame none = record { slices = []; are = refl; is = none }
+
+pub frame-more : (answers given : List (Result (List ℕ) NoMemory)) (i : ℕ) (frame new : List ℕ) → i < length given → drop i answers ≡ drop i given → AddsSlice (answer_of answers i) frame new
+    → IsFrameOf (take i given) frame → IsFrameOf (take (i + 1) given) new
+unfolding frame_of_slices
+frame-more answers given i frame new listed rest adds so_far =
+    let d : Result (List ℕ) NoMemory = Ok [] in
+    let more : take (i + 1) given ≡ take i given ++ answer_of given i ∷ [] = take_more given i d listed in
+    let was : answer_of given i ≡ Ok adds.slice = sym (answer-stands answers given i rest) ∙ adds.was in
+    let P : List (Result (List ℕ) NoMemory) → Type 0 = λ rs. AreSlices rs (so_far.slices ++ adds.slice ∷ []) in
+    record {
+      slices = so_far.slices ++ adds.slice ∷ [];
+      are = subst P (sym more) (slices-more (take i given) (answer_of given i) so_far.slices (so_far.slices ++ adds.slice ∷ []) adds.slice was refl so_far.are);
+      is =
+          adds.added
+          ∙ ap (λ f. f ++ footed adds.slice) so_far.is
+          ∙ ap (λ f. frame_of_slices so_far.slices ++ f) (sym (append-nil (footed adds.slice)))
+          ∙ sym (flat_map-append footed so_far.slices (adds.slice ∷ []));
+    }
+
+pub frame-all : (given : List (Result (List ℕ) NoMemory)) (i : ℕ) (frame bytes : List ℕ) → length given ≤ i → bytes ≡ frame → IsFrameOf (take i given) frame → IsFrameOf given bytes
+frame-all given i frame bytes all same is = record { slices = is.slices; are = sym (take_all i given all) ∙ is.are; is = same ∙ is.is }
+
+-- ---- it is the writer's
 
 slice-is : (slices : List (List ℕ)) (answers : List (Result (List ℕ) NoMemory)) (found : List (List ℕ)) (k : ℕ) → AreCoded slices answers → AreSlices answers found → k < length found → get_or found k [] ≡ slice_at slices k
 slice-is slices answers found k coded are low =
@@ -176,24 +219,36 @@ slice-is slices answers found k coded are low =
     subst P at (coded.each k d (omega (arith, long, count, low)))
 
 -- slices with no refusal among the answers are all slices
-pub slices-all : (slices : List (List ℕ)) (answers : List (Result (List ℕ) NoMemory)) (found : List (List ℕ)) → AreCoded slices answers → AreSlices answers found → found ≡ slices
+slices-all : (slices : List (List ℕ)) (answers : List (Result (List ℕ) NoMemory)) (found : List (List ℕ)) → AreCoded slices answers → AreSlices answers found → found ≡ slices
 slices-all slices answers found coded are =
     let long : length answers ≡ length found = ap (λ (rs : List (Result (List ℕ) NoMemory)). length rs) are ∙ length-map found (λ (s : List ℕ). Ok s) in
     let count : length answers ≡ length slices = coded.count in
     ext_get_or [] found slices (omega (arith, long, count)) (λ k low. slice-is slices answers found k coded are low)
 
-pub slices-few : FilmTilesStand → (params : Parameters) (width height : ℕ) (samples : List ℕ) (found : List (List ℕ)) → AreFilmOf params width height → IsPictureIn params.bits width height samples
-    → found ≡ film_slices params width height samples → All (λ slice. length slice < 2 ^ 24) found
-slices-few law params width height samples found film picture same =
-    let P : List (List ℕ) → Type 0 = λ ss. All (λ slice. length slice < 2 ^ 24) ss in
-    subst P (sym same) (All-weaker IsSlice (λ slice. length slice < 2 ^ 24) (λ slice is. is.small) (film_slices params width height samples) (law.slices params width height samples film picture))
+short-answer : FilmTilesStand → (params : Parameters) (width height : ℕ) (samples : List ℕ) (answer : Result (List ℕ) NoMemory) (k : ℕ) → AreFilmOf params width height → IsPictureIn params.bits width height samples
+    → k < length (film_slices params width height samples) → IfOk answer (λ bytes. bytes ≡ slice_at (film_slices params width height samples) k) → IsShortSlice answer
+short-answer law params width height samples (Ok bytes) k film picture low is =
+    let slice : IsSlice (slice_at (film_slices params width height samples) k) = law.slices params width height samples film picture k [] low in
+    let small : length (slice_at (film_slices params width height samples) k) < 2 ^ 24 = slice.small in
+    let P : List ℕ → Type 0 = λ s. length s < 2 ^ 24 in
+    subst P (sym is) small
+short-answer law params width height samples (Err why) k film picture low is = is
 
-pub frame-same : (params : Parameters) (width height : ℕ) (samples : List ℕ) (found : List (List ℕ)) → found ≡ film_slices params width height samples → frame_of_slices found ≡ film_frame params width height samples
+-- each slice of the writer has few enough bytes for its footer
+pub answers-short : FilmTilesStand → (params : Parameters) (width height : ℕ) (samples : List ℕ) (answers : List (Result (List ℕ) NoMemory)) → AreFilmOf params width height → IsPictureIn params.bits width height samples
+    → AreCoded (film_slices params width height samples) answers → All IsShortSlice answers
+answers-short law params width height samples answers film picture coded k d low =
+    let count : length answers ≡ length (film_slices params width height samples) = coded.count in
+    let listed : k < length (film_slices params width height samples) = omega (arith, count, low) in
+    short-answer law params width height samples (get_or answers k d) k film picture listed (coded.each k d listed)
+
+pub frame-is : (params : Parameters) (width height : ℕ) (samples : List ℕ) (answers : List (Result (List ℕ) NoMemory)) (frame : List ℕ) → AreCoded (film_slices params width height samples) answers → IsFrameOf answers frame
+    → frame ≡ film_frame params width height samples
 unfolding film_frame
-frame-same params width height samples found same = ap frame_of_slices same
+frame-is params width height samples answers frame coded is =
+    is.is ∙ ap frame_of_slices (slices-all (film_slices params width height samples) answers is.slices coded is.are)
 
--- the answers that were written back into the list that lent them
-pub answers-back : (answers rest : List (Result (List ℕ) NoMemory)) (len : ℕ) (found : List (List ℕ)) → length answers ≡ len → AreSlices (take len (answers ++ rest)) found → AreSlices answers found
-answers-back answers rest len found size are =
-    let P : List (Result (List ℕ) NoMemory) → Type 0 = λ rs. AreSlices rs found in
-    subst P (take_at answers rest len size) are
+pub if-ok_frame : (params : Parameters) (width height : ℕ) (samples : List ℕ) (answers : List (Result (List ℕ) NoMemory)) (result : Result (List ℕ) NoMemory) → AreCoded (film_slices params width height samples) answers
+    → IfOk result (IsFrameOf answers) → IfOk result (λ frame. frame ≡ film_frame params width height samples)
+if-ok_frame params width height samples answers (Ok frame) coded is = frame-is params width height samples answers frame coded is
+if-ok_frame params width height samples answers (Err why) coded is = is

@@ -15,7 +15,7 @@ use ffv1_frame::{Grid, Part, Parts, PictureWhy, cut};
 use ffv1_params::Params;
 use ffv1_slice::laws::{heads_are_one, slices_begin};
 use ffv1_slice::{Scratch, SliceHead, SliceWhy};
-use slice_pool::{OpenGate, run_tiles};
+use slice_pool::{Gate, run_tiles};
 use std::marker::Sync;
 use std::thread::Threads;
 
@@ -38,7 +38,7 @@ fn first_fault(answers: &[Result<SliceHead, SliceWhy>]) -> Result<(), PictureWhy
 }
 
 // Decodes the tiles of a frame that was cut into parts.
-fn decode_parts<R: Threads + Sync>(
+fn decode_parts<R: Threads + Sync, G: Gate + Sync>(
     rt: &R,
     params: &Params,
     grid: &Grid,
@@ -48,6 +48,7 @@ fn decode_parts<R: Threads + Sync>(
     answers: &mut [Result<SliceHead, SliceWhy>],
     scratch: &mut [Scratch],
     buffer: &mut [u16],
+    gate: &G,
 ) -> Result<(), PictureWhy>
     requires grid { IsGridOf params.now grid.now }
     requires cut { IsCut params.now grid.now bytes.now parts.now }
@@ -74,7 +75,7 @@ fn decode_parts<R: Threads + Sync>(
         grid,
         parts,
     };
-    run_tiles(rt, &task, buffer, bounds, scratch, answers, &OpenGate);
+    run_tiles(rt, &task, buffer, bounds, scratch, answers, gate);
     first_fault(answers)
 }
 
@@ -82,7 +83,7 @@ fn decode_parts<R: Threads + Sync>(
 /// by as many workers as scratches. The tiles of the parts cover the picture, whose samples `from_tiles` then takes out of
 /// the buffer. `Err` is the first fault: that of the frame, or of the first slice in order that codes no tile; the buffer and
 /// the parts are then free. It takes no memory.
-pub fn decode_frame<R: Threads + Sync>(
+pub fn decode_frame<R: Threads + Sync, G: Gate + Sync>(
     rt: &R,
     params: &Params,
     grid: &Grid,
@@ -92,6 +93,7 @@ pub fn decode_frame<R: Threads + Sync>(
     answers: &mut [Result<SliceHead, SliceWhy>],
     scratch: &mut [Scratch],
     buffer: &mut [u16],
+    gate: &G,
 ) -> Result<(), PictureWhy>
     requires grid { IsGridOf params.now grid.now }
     requires bounds { 1025 ≤ length bounds.old }
@@ -102,6 +104,7 @@ pub fn decode_frame<R: Threads + Sync>(
     requires buffer { length buffer.old ≡ 3 * grid.now.width * grid.now.height }
     ensures cut { OnOk result (IsCut params.now grid.now bytes.now parts.new.items) }
     ensures tiles { OnOk result (CoverOnce grid.now.width grid.now.height (tiles_of grid.now parts.new.items)) }
+    ensures heads { OnOk result (All (λ part. IsHeadIn grid.now part.head) parts.new.items) }
     ensures picture { OnOk result (TellsPicture params.now grid.now bytes.now parts.new.items buffer.new) }
     ensures err { IfErr result (PictureFault params.now grid.now bytes.now) }
     ensures fit { All (λ s. HasScratch params.now grid.now s) scratch.new }
@@ -122,5 +125,6 @@ pub fn decode_frame<R: Threads + Sync>(
         &mut answers[..count],
         scratch,
         buffer,
+        gate,
     )
 }

@@ -9,5 +9,5 @@ mod starts;
 
 pub use decoded::{MOST_TILES, decode_frame};
 pub use decoding::DecodeTask;
-pub use encoded::encode_frame;
+pub use encoded::{encode_frame, no_slices};
 pub use encoding::{EncodeTask, NoScratch};

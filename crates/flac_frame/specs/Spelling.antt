@@ -1,5 +1,5 @@
 -- A frame as it is written (RFC 9639, section 9): fields of bits, one behind another.
-use Rattle.std.specs.Prelude.{ℕ, zero, suc, ◌+◌, ◌-◌, ◌%◌, ◌^◌, Bool, true, false, nat_le, if◌then◌else◌, ℤ, pos, negsuc, List, [], ◌∷◌, ◌++◌, take}
+use Rattle.std.specs.Prelude.{ℕ, zero, suc, ◌+◌, ◌-◌, ◌/◌, ◌%◌, ◌^◌, Bool, true, false, nat_le, if◌then◌else◌, ℤ, pos, negsuc, List, [], ◌∷◌, ◌++◌, take}
 use Rattle.std.specs.List.{flat_map}
 use Rattle.cook_bits.specs.Bits.{low_bits}
 use Rattle.flac_predict.specs.declared.choosing.Choice.{Choice}
@@ -23,6 +23,10 @@ signed_bits count = flat_map (λ x. low_bits count (signed_field count x))
 unfoldable pub unary_bits : ℕ → List Bool
 unary_bits zero = true ∷ []
 unary_bits (suc count) = false ∷ unary_bits count
+
+-- a number under a parameter: its part above in unary, its part below in as many bits (section 9.2.7.1)
+abbrev pub rice_code : ℕ → ℕ → List Bool
+rice_code parameter number = unary_bits (number / 2 ^ parameter) ++ low_bits parameter (number % 2 ^ parameter)
 
 -- a residual under a parameter (section 9.2.7.1)
 unfoldable pub value_bits_of : ℕ → ℤ → List Bool

@@ -1,10 +1,10 @@
 -- The least of the offers so far, with its bits, where it is below a bound that the best candidate is below.
-use Rattle.std.specs.Prelude.{◌≡◌, ◌≤◌, ◌<◌, ℕ, nat_lt, if◌then◌else◌, ℤ, List, length, Option, Some, None}
+use Rattle.std.specs.Prelude.{◌≡◌, ◌+◌, ◌≤◌, ◌<◌, ℕ, nat_lt, if◌then◌else◌, ℤ, List, length, Option, Some, None}
 use Rattle.flac_predict.specs.declared.choosing.Choice.{Choice}
 use Rattle.flac_predict.specs.declared.choosing.Choice.TheVariants.{Fixed}
 use Rattle.flac_predict.specs.declared.choosing.Weighed.{Weighed}
 use Rattle.flac_predict.specs.Fixed.{fixed_residuals}
-use Rattle.flac_predict.specs.Rice.{best_parameter}
+use Rattle.flac_predict.specs.Rice.{best_parameter, residual_bits}
 use Rattle.flac_predict.specs.Least.{least_of}
 use Rattle.flac_predict.specs.Choice.{candidate_bits, best_candidate}
 
@@ -35,6 +35,11 @@ lighter_of held next = if nat_lt next.bits held.bits then next else held
 abbrev pub IsOffer : ℕ → List ℤ → Weighed → Choice → Option Weighed → Type 0
 IsOffer depth samples held choice None = held.bits ≤ candidate_bits depth samples choice
 IsOffer depth samples held choice (Some next) = (next.choice ≡ choice) × IsWeighed depth samples next
+
+-- the best parameter of some residuals and their bits behind a head, or none where what is held has no more bits
+abbrev pub IsPricing : Weighed → ℕ → List ℤ → Option (ℕ × ℕ) → Type 0
+IsPricing held head residuals None = held.bits ≤ head + residual_bits (best_parameter residuals) residuals
+IsPricing held head residuals (Some found) = (found.0 ≡ best_parameter residuals) × (found.1 ≡ head + residual_bits found.0 residuals)
 
 -- the offer of a fixed order
 pub record IsOfOrder (depth : ℕ) (samples : List ℤ) (order : ℕ) (offer : Weighed) : Type 0 where

@@ -1,13 +1,13 @@
 // The writer's choice for one channel.
 
-ghost use Rattle.std.specs.Prelude.{◌≡◌, ◌+◌, ◌*◌, ◌≤◌, ◌<◌, ◌++◌, [], length, MatchOption};
+ghost use Rattle.std.specs.Prelude.{◌≡◌, ◌+◌, ◌*◌, ◌≤◌, ◌<◌, ◌++◌, [], length};
 ghost use Rattle.flac_predict.specs.Samples.{AreInside, sample_at};
 ghost use Rattle.flac_predict.specs.Fixed.{fixed_residuals};
 ghost use Rattle.flac_predict.specs.Linear.{linear_residuals};
 ghost use Rattle.flac_predict.specs.Bank.{bank_set};
 ghost use Rattle.flac_predict.specs.Rice.{best_parameter, residual_bits, AreCodable};
 ghost use Rattle.flac_predict.specs.Choice.{best_candidate, candidate_bits, IsCandidate, all_are, constant_offer, fixed_offers, linear_offers};
-ghost use Rattle.flac_predict.specs.Weighing.{Holds, IsOffer, IsOfOrder, lighter_of};
+ghost use Rattle.flac_predict.specs.Weighing.{Holds, IsOffer, IsPricing, IsOfOrder, lighter_of};
 
 use crate::linear::sum_of_set;
 use crate::rice::{guess, rice_near, shifted_sum, sum_reaching};
@@ -271,8 +271,7 @@ fn offered(held: Weighed, residuals: &[i32], head: u64) -> Option<(u32, u64)>
     requires count { length residuals.now ≤ 4096 }
     requires codable { AreCodable residuals.now }
     requires head { head ≤ 10000 }
-    ensures { MatchOption result (held.bits ≤ head + residual_bits (best_parameter residuals.now) residuals.now)
-        (λ found. (found.0 ≡ best_parameter residuals.now) × (found.1 ≡ head + residual_bits found.0 residuals.now)) }
+    ensures { IsPricing held head residuals.now result }
 {
     let sum = shifted_sum(residuals, 0);
     let count = residuals.len() as u64;
@@ -371,9 +370,7 @@ fn offered_by(
     requires samples { AreInside 25 samples.now }
     requires room { length out.old + order ≡ length samples.now }
     requires head { head ≤ 10000 }
-    ensures { let residuals = linear_residuals (bank_set number) samples.now in
-        MatchOption result (held.bits ≤ head + residual_bits (best_parameter residuals) residuals)
-        (λ found. (found.0 ≡ best_parameter residuals) × (found.1 ≡ head + residual_bits found.0 residuals)) }
+    ensures { IsPricing held head (linear_residuals (bank_set number) samples.now) result }
 {
     let count = out.len() as u64;
     let most = sum_reaching(held.bits.saturating_sub(head), count);

@@ -5,3 +5,4 @@ pub mod NamesFound
 pub mod NamesTaken
 pub mod Round
 pub mod Texts
+pub mod Written

@@ -15,7 +15,7 @@ use Rattle.cook_bits.specs.Names.{is_relative_name, is_same_name, holds_folder_o
 use Rattle.reversal.specs.declared.record.Kind.TheVariants.{Other}
 use Rattle.reversal.specs.declared.record.FileRecord.{FileRecord}
 use Rattle.reversal.specs.SideData.{names_of, AreNames}
-use Rattle.reversal.specs.SideReading.{is_above_last, is_good_name, first_bad_name, other_record}
+use Rattle.reversal.specs.SideReading.{is_above_last, is_good_name, first_bad_name}
 use Rattle.reversal.specs.Lengths.{names_long}
 use Rattle.reversal.proofs.NameFaults.{bad_from, bad_start, bad_step, bad_end, map_append, sorted_none, sorted_more, above_before, both_false}
 
@@ -124,7 +124,7 @@ module _ (records : List FileRecord) (none : first_bad_name (names_of records) �
   rising_at k d lt = is_less _ (above_before records k (get_or records (k + 1) d) d lt (good_parts (k + 1) d lt).second)
 
 nobody : FileRecord
-nobody = other_record [] Other 0 []
+nobody = record { name = []; kind = Other; length = 0; md5 = []; head = []; pads = []; tail = [] }
 
 name_there : (records : List FileRecord) (k : ℕ) (e : List ℕ) → k < length records → get_or (names_of records) k e ≡ (get_or records k nobody).name
 name_there records k e lt = get_or-map (λ r. r.name) records k nobody e lt

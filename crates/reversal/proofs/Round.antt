@@ -1,11 +1,12 @@
 -- What was written is read again.
-use Rattle.std.proofs.Common.{◌≡◌, ℕ, zero, suc, ◌+◌, ◌^◌, ◌<◌, Bool, true, false, ◌&&◌, not, nat_lt, List, [], ◌∷◌, ◌++◌, length, get_or, take, drop, All, None, Ok, IsUtf8, refl, sym, ap, subst, ◌∙◌, append_assoc, length-append, arith}
+use Rattle.std.proofs.Common.{◌≡◌, ℕ, zero, suc, ◌+◌, ◌^◌, ◌<◌, Bool, true, false, ◌&&◌, if◌then◌else◌, not, nat_lt, List, [], ◌∷◌, ◌++◌, length, get_or, take, drop, All, None, Ok, Err, IsUtf8, refl, sym, ap, subst, ◌∙◌, append_assoc, length-append, arith}
+use Rattle.std.specs.Prelude.{nat_le}
 use Rattle.std.specs.List.{flat_map, list_any, AllByRecursion}
 use Rattle.std.specs.Int.{bytes_high_first}
 use Rattle.std.specs.Ordering.{nat_cmp, is_lt}
 use Rattle.std.specs.declared.cmp.Ordering.TheVariants.{Less}
 use Rattle.std.specs.Cmp.Lexicographic.{slice_cmp}
-use Rattle.std.proofs.lemmas.Bool.{le-ltb, or_parts}
+use Rattle.std.proofs.lemmas.Bool.{le-leb, le-ltb, or_parts}
 use Rattle.std.proofs.lemmas.List.{take_at, drop_at, append-nil, take-append-drop, length-take, get_or-take, get_or_default}
 use Rattle.std.proofs.lemmas.List.Concat.{flat_map-cons}
 use Rattle.std.proofs.lemmas.List.Elements.{recursion_from_All}
@@ -13,10 +14,15 @@ use Rattle.std.proofs.lemmas.List.Folds.{list_any-append}
 use Rattle.byteorder.specs.Endian.{big_number}
 use Rattle.byteorder.specs.Numbers.{big_number-reads_back, length-bytes_high_first}
 use Rattle.cook_bits.specs.Names.{is_relative_name, is_same_name, holds_folder_of, proper_folders_of}
-use Rattle.reversal.specs.declared.record.Kind.TheVariants.{Other}
+use Rattle.dpx_packing.specs.PadForms.{IsPadForm}
+use Rattle.dpx_packing.specs.FormEnds.{form_ends}
+use Rattle.reversal.specs.declared.record.Kind.{Kind}
+use Rattle.reversal.specs.declared.record.Kind.TheVariants.{Other, Frame, Wave}
+use Rattle.reversal.specs.declared.parts.Tag.{Tag}
+use Rattle.reversal.specs.declared.parts.Tag.TheVariants as tags
 use Rattle.reversal.specs.declared.record.FileRecord.{FileRecord}
-use Rattle.reversal.specs.SideData.{names_of, mark, record_bytes, side_data_of, HasShape, FitsTypes, AreNames, AreRecords}
-use Rattle.reversal.specs.SideReading.{piece_at, number_at, name_at, other_record, record_at, records_at, mark_at, side_at, side_read, is_above_last, is_good_name, first_bad_name}
+use Rattle.reversal.specs.SideData.{names_of, mark, kind_number, parts_bytes, record_bytes, side_data_of, HasFrame, HasNone, HasParts, HasShape, HasWave, IsTrack, FitsTypes, AreNames, AreRecords}
+use Rattle.reversal.specs.SideReading.{piece_at, number_at, name_at, tag_at, track_at, block_at, form_at, frame_at, wave_at, parts_at, record_at, records_at, mark_at, side_at, side_read, is_above_last, is_good_name, first_bad_name}
 use Rattle.reversal.proofs.Texts.{good_text}
 use Rattle.reversal.specs.Lengths.{names_long}
 use Rattle.reversal.proofs.NameFaults.{last_decides, bad_from, bad_start, bad_later, bad_end, map_append, both_false}
@@ -39,17 +45,84 @@ name_again name rest lt text =
     let left = length (bytes_high_first 2 (length name) ++ (name ++ rest)) in
     rw (number_again 2 (length name) (name ++ rest) lt, piece_again left name rest (length name) refl, good_text left name text) refl
 
-same_record : (r : FileRecord) → HasShape r → other_record r.name Other r.length r.md5 ≡ r
-same_record r shape = λ i. record { name = r.name; kind = sym shape.other i; length = r.length; md5 = r.md5; head = sym shape.no_head i; pads = sym shape.no_pads i; tail = sym shape.no_tail i }
+-- ---- fields of frames and waves
+
+both_hold : (a b : Bool) (left : ℕ) (x : ℕ × List ℕ) → a ≡ true → b ≡ true → (if a && b then Ok x else Err left) ≡ Ok x
+both_hold a b left x e f = rw (e, f) refl
+
+track_again : (track : ℕ) (rest : List ℕ) → IsTrack track → track_at (track ∷ rest) ≡ Ok (track, rest)
+track_again track rest listed = both_hold (nat_le 1 track) (nat_le track 126) (suc (length rest)) (track, rest) (le-leb 1 track listed.low) (le-leb track 126 listed.high)
+
+block_again : (text rest : List ℕ) → length text < 2 ^ 64 → block_at (bytes_high_first 8 (length text) ++ (text ++ rest)) ≡ Ok (text, rest)
+unfolding block_at
+block_again text rest lt =
+    let left = length (bytes_high_first 8 (length text) ++ (text ++ rest)) in
+    rw (number_again 8 (length text) (text ++ rest) lt, piece_again left text rest (length text) refl) refl
+
+form_again : (form rest : List ℕ) → IsPadForm form → form_at (form ++ rest) ≡ Ok (form, rest)
+unfolding form_at
+form_again form rest whole = rw (form_ends form rest whole, take_at form rest (length form) refl, drop_at form rest (length form) refl) refl
+
+-- ---- what a record has by its kind
+
+tag_of : Kind → Tag
+tag_of Other = tags.Other
+tag_of (Frame track index) = tags.Frame
+tag_of (Wave track) = tags.Wave
+
+tag_again : (kind : Kind) (rest : List ℕ) → tag_at (kind_number kind ∷ rest) ≡ Ok (tag_of kind, rest)
+unfolding tag_of
+tag_again Other rest = refl
+tag_again (Frame track index) rest = refl
+tag_again (Wave track) rest = refl
+
+frame_grouped : (place before head pads behind tail rest : List ℕ) → (((place ++ (before ++ head)) ++ pads) ++ (behind ++ tail)) ++ rest ≡ place ++ (before ++ (head ++ (pads ++ (behind ++ (tail ++ rest)))))
+frame_grouped place before head pads behind tail rest = simp append_assoc
+
+frame_again : (track index : ℕ) (head pads tail rest : List ℕ) → HasFrame track index pads → length head < 2 ^ 64 → length tail < 2 ^ 64
+    → frame_at (parts_bytes (Frame track index) head pads tail ++ rest) ≡ Ok (record { kind = Frame track index; head = head; pads = pads; tail = tail }, rest)
+unfolding frame_at
+frame_again track index head pads tail rest has short small =
+    let place = bytes_high_first 4 index in
+    let before = bytes_high_first 8 (length head) in
+    let behind = bytes_high_first 8 (length tail) in
+    let regrouped : parts_bytes (Frame track index) head pads tail ++ rest ≡ track ∷ (place ++ (before ++ (head ++ (pads ++ (behind ++ (tail ++ rest)))))) = ap (λ (x : List ℕ). track ∷ x) (frame_grouped place before head pads behind tail rest) in
+    ap frame_at regrouped
+    ∙ rw (track_again track (place ++ (before ++ (head ++ (pads ++ (behind ++ (tail ++ rest)))))) has.listed, number_again 4 index (before ++ (head ++ (pads ++ (behind ++ (tail ++ rest))))) has.in_four, block_again head (pads ++ (behind ++ (tail ++ rest))) short, form_again pads (behind ++ (tail ++ rest)) has.form, block_again tail rest small) refl
+
+wave_again : (track : ℕ) (head pads tail rest : List ℕ) → HasWave track pads → length head < 2 ^ 64 → length tail < 2 ^ 64
+    → wave_at (parts_bytes (Wave track) head pads tail ++ rest) ≡ Ok (record { kind = Wave track; head = head; pads = pads; tail = tail }, rest)
+unfolding wave_at
+wave_again track head pads tail rest has short small =
+    let before = bytes_high_first 8 (length head) in
+    let behind = bytes_high_first 8 (length tail) in
+    let regrouped : parts_bytes (Wave track) head pads tail ++ rest ≡ track ∷ (before ++ (head ++ (behind ++ (tail ++ rest)))) = ap (λ (x : List ℕ). track ∷ x) (simp append_assoc) in
+    ap wave_at regrouped
+    ∙ rw (track_again track (before ++ (head ++ (behind ++ (tail ++ rest)))) has.listed, block_again head (behind ++ (tail ++ rest)) short, block_again tail rest small) (ap (λ (p : List ℕ). Ok (record { kind = Wave track; head = head; pads = p; tail = tail }, rest)) (sym has.no_pads))
+
+other_again : (head pads tail rest : List ℕ) → HasNone head pads tail → parts_at tags.Other rest ≡ Ok (record { kind = Other; head = head; pads = pads; tail = tail }, rest)
+other_again head pads tail rest has = λ i. Ok (record { kind = Other; head = sym has.no_head i; pads = sym has.no_pads i; tail = sym has.no_tail i }, rest)
+
+parts_again : (kind : Kind) (head pads tail rest : List ℕ) → HasParts kind head pads tail → length head < 2 ^ 64 → length tail < 2 ^ 64
+    → parts_at (tag_of kind) (parts_bytes kind head pads tail ++ rest) ≡ Ok (record { kind = kind; head = head; pads = pads; tail = tail }, rest)
+unfolding tag_of
+parts_again Other head pads tail rest has short small = other_again head pads tail rest has
+parts_again (Frame track index) head pads tail rest has short small = frame_again track index head pads tail rest has short small
+parts_again (Wave track) head pads tail rest has short small = wave_again track head pads tail rest has short small
+
+record_grouped : (size name len sum parts rest : List ℕ) → ((((size ++ name) ++ len) ++ sum) ++ parts) ++ rest ≡ size ++ (name ++ (len ++ (sum ++ (parts ++ rest))))
+record_grouped size name len sum parts rest = simp append_assoc
 
 record_again : (r : FileRecord) (rest : List ℕ) → HasShape r → FitsTypes r → record_at (record_bytes r ++ rest) ≡ Ok (r, rest)
 unfolding record_at
 record_again r rest shape fits =
     let len = bytes_high_first 8 r.length in
     let size = bytes_high_first 2 (length r.name) in
-    let regrouped : record_bytes r ++ rest ≡ 0 ∷ (size ++ (r.name ++ (len ++ (r.md5 ++ rest)))) = ap (λ (x : List ℕ). 0 ∷ x) (simp append_assoc) in
+    let parts = parts_bytes r.kind r.head r.pads r.tail in
+    let behind : List ℕ = size ++ (r.name ++ (len ++ (r.md5 ++ (parts ++ rest)))) in
+    let regrouped : record_bytes r ++ rest ≡ kind_number r.kind ∷ behind = ap (λ (x : List ℕ). kind_number r.kind ∷ x) (record_grouped size r.name len r.md5 parts rest) in
     ap record_at regrouped
-    ∙ rw (name_again r.name (len ++ (r.md5 ++ rest)) shape.in_two fits.text, number_again 8 r.length (r.md5 ++ rest) fits.in_eight, piece_again (length (r.md5 ++ rest)) r.md5 rest 16 fits.sixteen) (ap (λ (x : FileRecord). Ok (x, rest)) (same_record r shape))
+    ∙ rw (tag_again r.kind behind, name_again r.name (len ++ (r.md5 ++ (parts ++ rest))) shape.in_two fits.text, number_again 8 r.length (r.md5 ++ (parts ++ rest)) fits.in_eight, piece_again (length (r.md5 ++ (parts ++ rest))) r.md5 (parts ++ rest) 16 fits.sixteen, parts_again r.kind r.head r.pads r.tail rest shape.parts fits.head_in_eight fits.tail_in_eight) refl
 
 records_again : (records : List FileRecord) (rest : List ℕ) → AllByRecursion HasShape records → AllByRecursion FitsTypes records → records_at (length records) (flat_map record_bytes records ++ rest) ≡ Ok (records, rest)
 unfolding records_at
@@ -113,7 +186,7 @@ is_good records at d are lt =
     all_good _ _ _ relative (is_above records at d are lt) free
 
 nothing : FileRecord
-nothing = other_record [] Other 0 []
+nothing = record { name = []; kind = Other; length = 0; md5 = []; head = []; pads = []; tail = [] }
 
 none_from : (records : List FileRecord) (more at : ℕ) → AreNames (names_of records) → at + more ≡ length records → bad_from records at ≡ None
 none_from records zero at are e = bad_end records at (omega arith)

@@ -1,13 +1,16 @@
 -- Side data read from left to right, with the first fault that is met. A fault is told by how many bytes begin with the faulty field.
-use Rattle.std.specs.Prelude.{◌≡◌, ℕ, zero, suc, ◌-◌, Bool, true, ◌&&◌, not, List, [], ◌∷◌, ◌++◌, length, take, drop, Option, Some, None, Result, Ok, Err, nat_eq, nat_lt, ◌==◌, if◌then◌else◌}
+use Rattle.std.specs.Prelude.{◌≡◌, ℕ, zero, suc, ◌-◌, Bool, true, ◌&&◌, not, List, [], ◌∷◌, ◌++◌, length, take, drop, Option, Some, None, Result, Ok, Err, nat_eq, nat_le, nat_lt, ◌==◌, if◌then◌else◌}
 use Rattle.std.specs.Str.{is_utf8}
 use Rattle.std.specs.Ordering.{nat_cmp, is_lt}
 use Rattle.std.specs.Cmp.Lexicographic.{slice_cmp, pointwise}
 use Rattle.std.specs.Global.{Vec}
 use Rattle.byteorder.specs.Endian.{big_number}
 use Rattle.cook_bits.specs.Names.{is_relative_name, holds_folder_of}
-use Rattle.reversal.specs.declared.record.Kind.{Kind}
-use Rattle.reversal.specs.declared.record.Kind.TheVariants.{Other}
+use Rattle.dpx_packing.specs.PadForms.{pad_form_len}
+use Rattle.reversal.specs.declared.record.Kind.TheVariants as kinds
+use Rattle.reversal.specs.declared.parts.Tag.{Tag}
+use Rattle.reversal.specs.declared.parts.Tag.TheVariants as tags
+use Rattle.reversal.specs.declared.parts.Parts.{Parts}
 use Rattle.reversal.specs.declared.record.FileRecord.{FileRecord}
 use Rattle.reversal.specs.declared.unread.Unread.{Unread}
 use Rattle.reversal.specs.declared.unread.Unread.TheVariants as unread
@@ -41,11 +44,13 @@ number_at len bytes = do
   piece ← piece_at (length bytes) len bytes
   Ok (big_number len piece.0, piece.1)
 
--- the kind 0, of an attached file
-abbrev pub kind_at : List ℕ → Result (Kind × List ℕ) ℕ
-kind_at [] = Err 0
-kind_at (zero ∷ rest) = Ok (Other, rest)
-kind_at (suc kind ∷ rest) = Err (length (suc kind ∷ rest))
+-- the number of a kind: 0 of an attached file, 1 of a frame, 2 of a wave
+abbrev pub tag_at : List ℕ → Result (Tag × List ℕ) ℕ
+tag_at [] = Err 0
+tag_at (zero ∷ rest) = Ok (tags.Other, rest)
+tag_at (suc zero ∷ rest) = Ok (tags.Frame, rest)
+tag_at (suc (suc zero) ∷ rest) = Ok (tags.Wave, rest)
+tag_at (suc (suc (suc number)) ∷ rest) = Err (suc (length rest))
 
 -- a text, of a field that began where `left` bytes were left
 abbrev pub text_at : ℕ → List ℕ → Result (List ℕ) ℕ
@@ -59,16 +64,61 @@ name_at bytes = do
   name ← text_at (length bytes) piece.0
   Ok (name, piece.1)
 
-abbrev pub other_record : List ℕ → Kind → ℕ → List ℕ → FileRecord
-other_record name kind len sum = record { name = name; kind = kind; length = len; md5 = sum; head = []; pads = []; tail = [] }
+-- the number of a track, which is 1 to 126
+abbrev pub track_at : List ℕ → Result (ℕ × List ℕ) ℕ
+track_at [] = Err 0
+track_at (track ∷ rest) = if nat_le 1 track && nat_le track 126 then Ok (track, rest) else Err (suc (length rest))
+
+-- the length of bytes, in eight bytes, and the bytes, which is one field
+unfoldable pub block_at : List ℕ → Result (List ℕ × List ℕ) ℕ
+block_at bytes = do
+  len ← number_at 8 bytes
+  piece_at (length bytes) len.0 len.1
+
+-- a whole form of pads, which is one field
+abbrev pub form_until : List ℕ → Option ℕ → Result (List ℕ × List ℕ) ℕ
+form_until bytes None = Err (length bytes)
+form_until bytes (Some len) = Ok (take len bytes, drop len bytes)
+
+unfoldable pub form_at : List ℕ → Result (List ℕ × List ℕ) ℕ
+form_at bytes = form_until bytes (pad_form_len bytes)
+
+-- ---- what a record has by its kind
+
+unfoldable pub frame_at : List ℕ → Result (Parts × List ℕ) ℕ
+frame_at bytes = do
+  track ← track_at bytes
+  index ← number_at 4 track.1
+  head ← block_at index.1
+  pads ← form_at head.1
+  tail ← block_at pads.1
+  Ok (record { kind = kinds.Frame track.0 index.0; head = head.0; pads = pads.0; tail = tail.0 }, tail.1)
+
+unfoldable pub wave_at : List ℕ → Result (Parts × List ℕ) ℕ
+wave_at bytes = do
+  track ← track_at bytes
+  head ← block_at track.1
+  tail ← block_at head.1
+  Ok (record { kind = kinds.Wave track.0; head = head.0; pads = []; tail = tail.0 }, tail.1)
+
+abbrev pub parts_at : Tag → List ℕ → Result (Parts × List ℕ) ℕ
+parts_at tags.Other bytes = Ok (record { kind = kinds.Other; head = []; pads = []; tail = [] }, bytes)
+parts_at tags.Frame bytes = frame_at bytes
+parts_at tags.Wave bytes = wave_at bytes
+
+-- ---- records
+
+abbrev pub record_with : List ℕ → ℕ → List ℕ → Parts → FileRecord
+record_with name len sum parts = record { name = name; kind = parts.kind; length = len; md5 = sum; head = parts.head; pads = parts.pads; tail = parts.tail }
 
 unfoldable pub record_at : List ℕ → Result (FileRecord × List ℕ) ℕ
 record_at bytes = do
-  kind ← kind_at bytes
-  name ← name_at kind.1
+  tag ← tag_at bytes
+  name ← name_at tag.1
   len ← number_at 8 name.1
   sum ← piece_at (length len.1) 16 len.1
-  Ok (other_record name.0 kind.0 len.0 sum.0, sum.1)
+  parts ← parts_at tag.0 sum.1
+  Ok (record_with name.0 len.0 sum.0 parts.0, parts.1)
 
 unfoldable pub records_at : ℕ → List ℕ → Result (List FileRecord × List ℕ) ℕ
 records_at zero bytes = Ok ([], bytes)

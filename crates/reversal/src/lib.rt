@@ -4,6 +4,7 @@
 mod error;
 pub mod laws;
 mod names;
+mod parts;
 mod reading;
 mod record;
 mod unread;

@@ -1,13 +1,15 @@
 ghost use Rattle.std.specs.Prelude.{◌≡◌, length, IfOk};
 ghost use Rattle.reversal.specs.SideData.{IsSideDataOf};
-ghost use Rattle.reversal.specs.SideReading.{Gives, GivesSide, piece_at, number_at, kind_at, text_at, name_at, record_at, records_at, mark_at, side_at, side_read};
+ghost use Rattle.reversal.specs.SideReading.{Gives, GivesSide, piece_at, number_at, tag_at, text_at, name_at, track_at, block_at, form_at, frame_at, wave_at, parts_at, record_at, records_at, mark_at, side_at, side_read};
 
 use crate::names::first_bad_name;
+use crate::parts::{FRAME, OTHER, Parts, TRACKS, Tag, WAVE};
 use crate::unread::Unread;
-use crate::writing::{MARK, OTHER};
+use crate::writing::MARK;
 use crate::{FileRecord, Kind, SideError};
 use byteorder::{BigEndian, ByteOrder};
 use cook_bits::{Bytes, Name, NoMemory};
+use dpx_packing::pad_form_len;
 use std::alloc::Global;
 use std::str::from_utf8;
 
@@ -43,11 +45,13 @@ fn u64_of(bytes: &[u8]) -> Result<(u64, &[u8]), Unread>
     Ok((BigEndian::read_u64(number), rest))
 }
 
-fn kind_of(bytes: &[u8]) -> Result<(Kind, &[u8]), Unread>
-    ensures { Gives (λ x. (x.0, x.1.now)) result (kind_at bytes.now) }
+fn tag_of(bytes: &[u8]) -> Result<(Tag, &[u8]), Unread>
+    ensures { Gives (λ x. (x.0, x.1.now)) result (tag_at bytes.now) }
 {
     match bytes {
-        [OTHER, rest @ ..] => Ok((Kind::Other, rest)),
+        [OTHER, rest @ ..] => Ok((Tag::Other, rest)),
+        [FRAME, rest @ ..] => Ok((Tag::Frame, rest)),
+        [WAVE, rest @ ..] => Ok((Tag::Wave, rest)),
         _ => Err(Unread::Fault { left: bytes.len() }),
     }
 }
@@ -81,22 +85,103 @@ fn sum_of(bytes: &[u8]) -> Result<([u8; 16], &[u8]), Unread>
     Ok((sum, rest))
 }
 
+fn track_of(bytes: &[u8]) -> Result<(u8, &[u8]), Unread>
+    ensures { Gives (λ x. (x.0, x.1.now)) result (track_at bytes.now) }
+{
+    match bytes {
+        [track, rest @ ..] if 1 <= *track && *track <= TRACKS => Ok((*track, rest)),
+        _ => Err(Unread::Fault { left: bytes.len() }),
+    }
+}
+
+// The bytes behind their length.
+#[tactic(auto, unfolding(crate::specs::SideReading::block_at))]
+fn block_of(bytes: &[u8]) -> Result<(&[u8], &[u8]), Unread>
+    ensures { Gives (λ x. (x.0.now, x.1.now)) result (block_at bytes.now) }
+{
+    let (len, rest) = u64_of(bytes)?;
+    piece_of(bytes.len(), len as usize, rest)
+}
+
+// The form of pads that the bytes begin with.
+#[tactic(auto, unfolding(crate::specs::SideReading::form_at))]
+fn form_of(bytes: &[u8]) -> Result<(&[u8], &[u8]), Unread>
+    ensures { Gives (λ x. (x.0.now, x.1.now)) result (form_at bytes.now) }
+{
+    match pad_form_len(bytes) {
+        Some(len) => Ok(bytes.split_at(len)),
+        None => Err(Unread::Fault { left: bytes.len() }),
+    }
+}
+
+#[tactic(auto, unfolding(crate::specs::SideReading::frame_at))]
+fn frame_of(alloc: Global, bytes: &[u8]) -> Result<(Parts, &[u8]), Unread>
+    ensures { Gives (λ x. (x.0, x.1.now)) result (frame_at bytes.now) }
+{
+    let (track, rest) = track_of(bytes)?;
+    let (index, rest) = u32_of(rest)?;
+    let (head, rest) = block_of(rest)?;
+    let (pads, rest) = form_of(rest)?;
+    let (tail, rest) = block_of(rest)?;
+    let parts = Parts {
+        kind: Kind::Frame { track, index },
+        head: Bytes::copy(alloc, head)?,
+        pads: Bytes::copy(alloc, pads)?,
+        tail: Bytes::copy(alloc, tail)?,
+    };
+    Ok((parts, rest))
+}
+
+#[tactic(auto, unfolding(crate::specs::SideReading::wave_at))]
+fn wave_of(alloc: Global, bytes: &[u8]) -> Result<(Parts, &[u8]), Unread>
+    ensures { Gives (λ x. (x.0, x.1.now)) result (wave_at bytes.now) }
+{
+    let (track, rest) = track_of(bytes)?;
+    let (head, rest) = block_of(rest)?;
+    let (tail, rest) = block_of(rest)?;
+    let parts = Parts {
+        kind: Kind::Wave { track },
+        head: Bytes::copy(alloc, head)?,
+        pads: Bytes::new(alloc),
+        tail: Bytes::copy(alloc, tail)?,
+    };
+    Ok((parts, rest))
+}
+
+// What a record has by its kind.
+fn parts_of(alloc: Global, tag: Tag, bytes: &[u8]) -> Result<(Parts, &[u8]), Unread>
+    ensures { Gives (λ x. (x.0, x.1.now)) result (parts_at tag bytes.now) }
+{
+    match tag {
+        Tag::Other => Ok((Parts::none(alloc), bytes)),
+        Tag::Frame => frame_of(alloc, bytes),
+        Tag::Wave => wave_of(alloc, bytes),
+    }
+}
+
 #[tactic(auto, unfolding(crate::specs::SideReading::record_at))]
 fn record_of(alloc: Global, bytes: &[u8]) -> Result<(FileRecord, &[u8]), Unread>
     ensures { Gives (λ x. (x.0, x.1.now)) result (record_at bytes.now) }
 {
-    let (kind, rest) = kind_of(bytes)?;
+    let (tag, rest) = tag_of(bytes)?;
     let (name, rest) = name_of(alloc, rest)?;
     let (length, rest) = u64_of(rest)?;
     let (md5, rest) = sum_of(rest)?;
+    let (parts, rest) = parts_of(alloc, tag, rest)?;
+    let Parts {
+        kind,
+        head,
+        pads,
+        tail,
+    } = parts;
     let entry = FileRecord {
         name,
         kind,
         length,
         md5,
-        head: Bytes::new(alloc),
-        pads: Bytes::new(alloc),
-        tail: Bytes::new(alloc),
+        head,
+        pads,
+        tail,
     };
     Ok((entry, rest))
 }

@@ -1,5 +1,6 @@
 // Numbers are coded and read by data, in the program that runs the cases; bits one by one are tested here.
 
+use super::is;
 use cook_bits::Bytes;
 use range_coder::{Decoder, Encoder, Table};
 use std::alloc::Global;
@@ -51,7 +52,7 @@ fn bits_are_coded_and_read(rt: HostRuntime) -> Result<(), Fail> {
     ];
     for (bits, bytes) in cases {
         let coded = coded_bits(rt.alloc(), bits)?;
-        assert_eq!(rt; coded.as_slice(), bytes);
+        is(&rt, coded.as_slice(), bytes);
         assert!(rt; are_read(bytes, bits));
     }
     Ok(())

@@ -1,5 +1,6 @@
 ghost use Rattle.std.specs.Prelude.{◌≡◌, ◌<◌, ◌+◌, length, replicate};
 
+use super::is;
 use slice_pool::{Gate, OpenGate, TileTask, run_tiles};
 use std::sync::atomic::{AtomicU64, Ordering};
 
@@ -70,12 +71,12 @@ fn two_shares_run_beside_one_another(rt: HostRuntime) {
         &mut answers,
         &gate,
     );
-    assert_eq!(&rt; gate.given_up.load(Ordering::SeqCst), 0);
-    assert_eq!(&rt; gate.firsts.load(Ordering::SeqCst), 1);
-    assert_eq!(&rt; gate.seconds.load(Ordering::SeqCst), 1);
-    assert_eq!(&rt; buffer, [0, 0, 1, 1, 1]);
-    assert_eq!(&rt; answers, [0, 1]);
-    assert_eq!(&rt; scratch, [7, 7]);
+    is(&rt, gate.given_up.load(Ordering::SeqCst), 0);
+    is(&rt, gate.firsts.load(Ordering::SeqCst), 1);
+    is(&rt, gate.seconds.load(Ordering::SeqCst), 1);
+    is(&rt, buffer, [0, 0, 1, 1, 1]);
+    is(&rt, answers, [0, 1]);
+    is(&rt, scratch, [7, 7]);
 }
 
 // Of three tiles among five workers, the shares 1, 3 and 4 have one each.
@@ -93,7 +94,7 @@ fn shares_without_tiles_pass_no_gate(rt: HostRuntime) {
         &mut answers,
         &OpenGate,
     );
-    assert_eq!(&rt; buffer, [0, 2, 2, 2]);
-    assert_eq!(&rt; answers, [0, 1, 2]);
-    assert_eq!(&rt; scratch, [0, 7, 0, 7, 7]);
+    is(&rt, buffer, [0, 2, 2, 2]);
+    is(&rt, answers, [0, 1, 2]);
+    is(&rt, scratch, [0, 7, 0, 7, 7]);
 }

@@ -1,4 +1,4 @@
-ghost use Rattle.std.specs.Prelude.{◌≡◌, ◌<◌, ◌++◌, MatchOption};
+ghost use Rattle.std.specs.Prelude.{◌≡◌, ◌<◌, ◌++◌, IfNone, IfSome};
 ghost use Rattle.cook_bits.specs.Bits.{low_bits, bits_of};
 ghost use Rattle.cook_bits.specs.Unary.{in_32_bits, unary_taken, unary_left, Found};
 
@@ -16,9 +16,10 @@ struct Behind<'a> {
 #[inline]
 fn behind_one(word: u64, held: u32, rest: &[u8]) -> Option<Behind<'_>>
     requires { held < 64 }
-    ensures { let bits = low_bits held word ++ bits_of rest.now in
-        MatchOption result (unary_taken bits ≡ None)
-        (λ x. (x.held < 64) × Found x.zeros bits (low_bits x.held x.word ++ bits_of x.rest.now)) }
+    ensures none { IfNone result (unary_taken (low_bits held word ++ bits_of rest.now) ≡ None) }
+    ensures held { IfSome result (λ x. x.held < 64) }
+    ensures some { let bits = low_bits held word ++ bits_of rest.now in
+        IfSome result (λ x. Found x.zeros bits (low_bits x.held x.word ++ bits_of x.rest.now)) }
 {
     let mut zeros: u32 = 0;
     let mut ahead = with_enough(word, held, rest, 32);

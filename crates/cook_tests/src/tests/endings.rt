@@ -1,5 +1,5 @@
 // How orders end on a shelf in memory, and that a refusal leaves it as it was.
-use super::orders::{File, ends, has_file, shelf_of};
+use super::orders::{File, ends, has_file, is, shelf_of};
 use shelf_core::MemShelf;
 use std::test::Fail;
 
@@ -53,7 +53,7 @@ fn a_directory_is_packed_and_comes_back(rt: HostRuntime) -> Result<(), Fail> {
     let report = "restored 1 files, 0 bytes\n";
     ends(&rt, rt.alloc(), &mut shelf, "restore q u/", 0, report)?;
     assert!(rt; has_file(&shelf, "u/notes.txt", b""));
-    assert_eq!(rt; shelf.files().len(), 8);
-    assert_eq!(rt; shelf.unsealed().len(), 0);
+    is(&rt, shelf.files().len(), 8);
+    is(&rt, shelf.unsealed().len(), 0);
     Ok(())
 }

@@ -1,6 +1,6 @@
 // Calls of a shelf and writes of a report that fail.
 use super::orders::{
-    File, add_file, cook_line, ends, file_of, has_file, package_of, shelf_of, sink,
+    File, add_file, cook_line, ends, file_of, has_file, is, package_of, shelf_of, sink,
 };
 use cook_top::Status;
 use shelf_core::MemShelf;
@@ -42,14 +42,14 @@ fn a_shelf_fault_leaves_the_first_files(rt: HostRuntime) -> Result<(), Fail> {
         let status = cook_line(rt.alloc(), "restore p t", &mut shelf, &mut out)?;
         let whole = whole_files(&shelf).ok_or("the first files")?;
         if matches!(status, Status::Done) {
-            assert_eq!(rt; whole, 3);
+            is(&rt, whole, 3);
             return Ok(());
         }
         assert!(rt;
             matches!(status, Status::ShelfFault),
             "at call {call}: {status:?}"
         );
-        assert_eq!(rt; out.bytes(), b"cook: shelf fault\n".as_slice());
+        is(&rt, out.bytes(), b"cook: shelf fault\n".as_slice());
         assert!(rt; before <= whole, "at call {call}");
         before = whole;
     }
@@ -61,7 +61,7 @@ fn a_shelf_fault_at_the_listing_leaves_no_package(rt: HostRuntime) -> Result<(),
     let mut shelf = shelf_of(rt.alloc(), &[], vec![in rt.alloc(); 1]?)?;
     let line = "cook: shelf fault\n";
     ends(&rt, rt.alloc(), &mut shelf, "pack d p", 5, line)?;
-    assert_eq!(rt; shelf.files().len(), 0);
+    is(&rt, shelf.files().len(), 0);
     Ok(())
 }
 
@@ -72,11 +72,11 @@ fn a_report_fault_leaves_the_package_whole(rt: HostRuntime) -> Result<(), Fail> 
     let mut out = sink(rt.alloc(), 1)?;
     let status = cook_line(rt.alloc(), "pack d p", &mut shelf, &mut out)?;
     assert!(rt; matches!(status, Status::ReportFault), "{status:?}");
-    assert_eq!(rt; status.number(), 7);
-    assert_eq!(rt; out.bytes().len(), 0);
+    is(&rt, status.number(), 7);
+    is(&rt, out.bytes().len(), 0);
     let package = package_of(&rt, rt.alloc(), &[])?;
     assert!(rt; has_file(&shelf, "p", package.as_slice()));
-    assert_eq!(rt; shelf.unsealed().len(), 0);
+    is(&rt, shelf.unsealed().len(), 0);
     Ok(())
 }
 
@@ -86,6 +86,6 @@ fn a_refusal_stays_where_its_line_is_not_written(rt: HostRuntime) -> Result<(), 
     let mut out = sink(rt.alloc(), 1)?;
     let status = cook_line(rt.alloc(), "pack a", &mut shelf, &mut out)?;
     assert!(rt; matches!(status, Status::Usage), "{status:?}");
-    assert_eq!(rt; out.bytes().len(), 0);
+    is(&rt, out.bytes().len(), 0);
     Ok(())
 }

@@ -1,7 +1,7 @@
 ghost use Rattle.std.specs.Prelude.{◌≡◌, ◌≤◌, length};
 ghost use Rattle.shelf_core.specs.Causes.{Rose};
 
-use super::orders::{File, ends, package_of};
+use super::orders::{File, ends, is, package_of};
 use cook_bits::{Name, NoMemory};
 use shelf_core::{CreateError, Entry, Shelf, ShelfError};
 use std::alloc::Global;
@@ -251,14 +251,14 @@ fn folders_are_made_before_what_stands_in_them(rt: HostRuntime) -> Result<(), Fa
     let mut shelf = shelf_with(rt.alloc(), "p", package.as_slice(), None)?;
     let report = "restored 3 files, 16 bytes\n";
     ends(&rt, rt.alloc(), &mut shelf, "restore p t", 0, report)?;
-    assert_eq!(rt; shelf.files.len(), 4);
+    is(&rt, shelf.files.len(), 4);
     assert!(rt; shelf.has("t/a/b/c", b"first"));
     assert!(rt; shelf.has("t/a/b/d", b"second"));
     assert!(rt; shelf.has("t/a/e", b"third"));
     let wanted = ["t", "t/a", "t/a/b"];
-    assert_eq!(rt; shelf.folders.len(), wanted.len());
+    is(&rt, shelf.folders.len(), wanted.len());
     for (folder, name) in shelf.folders.as_slice().iter().zip(&wanted) {
-        assert_eq!(rt; folder.as_str(), *name);
+        is(&rt, folder.as_str(), *name);
     }
     Ok(())
 }
@@ -273,9 +273,9 @@ fn no_folder_is_made_twice(rt: HostRuntime) -> Result<(), Fail> {
     let report = "restored 3 files, 3 bytes\n";
     ends(&rt, rt.alloc(), &mut shelf, "restore p t", 0, report)?;
     let wanted = ["t", "t/a", "t/a/b"];
-    assert_eq!(rt; shelf.folders.len(), wanted.len());
+    is(&rt, shelf.folders.len(), wanted.len());
     for (folder, name) in shelf.folders.as_slice().iter().zip(&wanted) {
-        assert_eq!(rt; folder.as_str(), *name);
+        is(&rt, folder.as_str(), *name);
     }
     Ok(())
 }
@@ -319,7 +319,7 @@ fn another_second_reading_is_a_fault_of_the_file(rt: HostRuntime) -> Result<(), 
     let mut shelf = shelf_with(rt.alloc(), "p", package.as_slice(), Some(place as u64))?;
     let line = "cook: package: file a/b/d: Sum\n";
     ends(&rt, rt.alloc(), &mut shelf, "restore p t", 3, line)?;
-    assert_eq!(rt; shelf.files.len(), 3);
+    is(&rt, shelf.files.len(), 3);
     assert!(rt; shelf.has("t/a/b/c", b"first"));
     Ok(())
 }

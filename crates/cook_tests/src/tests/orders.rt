@@ -2,11 +2,17 @@
 use cook_top::{Status, cook};
 use shelf_core::{MemShelf, MemSink, Shelf, Sink};
 use std::alloc::{AllocError, Global};
+use std::fmt::Debug;
 use std::process::Abort;
 use std::test::Fail;
 
 // A file: its full name and its bytes.
 pub type File<'a> = (&'a str, &'a [u8]);
+
+// What is given is what is wanted. An assertion where it stands is proved three times as long as this call.
+pub fn is<T: PartialEq + Debug + Drop>(rt: &impl Abort, given: T, wanted: T) {
+    assert_eq!(rt; given, wanted);
+}
 
 // An empty sink with room for each line, whose write of a number fails.
 pub fn sink(alloc: Global, fail_call: u32) -> Result<MemSink, Fail> {

@@ -2,6 +2,7 @@
 ghost use Rattle.std.specs.Prelude.{OnOk};
 ghost use Rattle.shelf_core.specs.Reads.{Has};
 
+use super::orders::is;
 use cook_bits::{Bytes, Name};
 use shelf_core::{CalmShelf, CreateError, MemShelf, MemSink, Shelf, ShelfError, Sink, SinkFailed};
 use std::process::Abort;
@@ -25,10 +26,10 @@ fn read_five<S: Shelf>(rt: &impl Abort, shelf: &mut S, name: &str) -> Result<(),
     requires { Has S.Shelf shelf.old name.now }
 {
     let mut piece = [0u8; 4];
-    assert_eq!(rt; shelf.read_at(name, 0, &mut piece)?, 4);
-    assert_eq!(rt; piece, *b"abcd");
-    assert_eq!(rt; shelf.read_at(name, 3, &mut piece)?, 2);
-    assert_eq!(rt; piece, *b"decd");
+    is(rt, shelf.read_at(name, 0, &mut piece)?, 4);
+    is(rt, piece, *b"abcd");
+    is(rt, shelf.read_at(name, 3, &mut piece)?, 2);
+    is(rt, piece, *b"decd");
     Ok(())
 }
 
@@ -36,9 +37,9 @@ fn read_five<S: Shelf>(rt: &impl Abort, shelf: &mut S, name: &str) -> Result<(),
 fn keeps_a_file<S: Shelf>(rt: &impl Abort, shelf: &mut S) -> Result<(), Fail> {
     write_five(shelf, "d/f")?;
     read_five(rt, shelf, "d/f")?;
-    assert_eq!(rt; shelf.create("d/f"), Err(CreateError::Exists));
-    assert_eq!(rt; shelf.len("d/f")?, Some(5));
-    assert_eq!(rt; shelf.len("d")?, None);
+    is(rt, shelf.create("d/f"), Err(CreateError::Exists));
+    is(rt, shelf.len("d/f")?, Some(5));
+    is(rt, shelf.len("d")?, None);
     for (root, count) in [("d", 1), ("d/f", 0), ("", 0)] {
         assert_eq!(rt; shelf.list(root)?.len(), count, "under {root:?}");
     }
@@ -73,8 +74,8 @@ fn a_mem_shelf_keeps_a_file(rt: HostRuntime) -> Result<(), Fail> {
     let files = vec![in rt.alloc(); (Name::copy(rt.alloc(), "a")?, Bytes::new(rt.alloc()))]?;
     let mut shelf = MemShelf::new(rt.alloc(), files, Vec::new(rt.alloc()));
     keeps_a_file(&rt, &mut shelf)?;
-    assert_eq!(rt; shelf.files().len(), 2);
-    assert_eq!(rt; shelf.unsealed().len(), 0);
+    is(&rt, shelf.files().len(), 2);
+    is(&rt, shelf.unsealed().len(), 0);
     Ok(())
 }
 
@@ -83,8 +84,8 @@ fn a_calm_shelf_keeps_a_file(rt: HostRuntime) -> Result<(), Fail> {
     let files = vec![in rt.alloc(); (Name::copy(rt.alloc(), "a")?, Bytes::new(rt.alloc()))]?;
     let mut shelf = CalmShelf::new(rt.alloc(), files);
     keeps_a_file(&rt, &mut shelf)?;
-    assert_eq!(rt; shelf.files().len(), 2);
-    assert_eq!(rt; shelf.unsealed().len(), 0);
+    is(&rt, shelf.files().len(), 2);
+    is(&rt, shelf.unsealed().len(), 0);
     Ok(())
 }
 
@@ -98,33 +99,35 @@ fn files_stand_in_byte_order_and_unsealed_names_in_order_of_creation(
         shelf.create(name)?;
     }
     for (file, name) in shelf.files().iter().zip(["a!", "a/b", "a0"]) {
-        assert_eq!(rt; file.0.as_str(), name);
+        is(&rt, file.0.as_str(), name);
     }
     for (unsealed, name) in shelf.unsealed().iter().zip(["a0", "a/b", "a!"]) {
-        assert_eq!(rt; unsealed.as_str(), name);
+        is(&rt, unsealed.as_str(), name);
     }
     let entries = shelf.list("a")?;
     assert_eq!(rt; entries.len(), 1);
-    assert_eq!(rt; entries[0].name.as_str(), "b");
+    is(&rt, entries[0].name.as_str(), "b");
     Ok(())
 }
 
 #[test]
 fn a_listed_call_fails_and_half_of_its_bytes_stand(rt: HostRuntime) -> Result<(), Fail> {
     let mut shelf = MemShelf::new(rt.alloc(), Vec::new(rt.alloc()), vec![in rt.alloc(); 1, 3]?);
-    assert_eq!(rt;
+    is(
+        &rt,
         first_append(&mut shelf, "a", b"abcde"),
-        Err(CreateError::Failed)
+        Err(CreateError::Failed),
     );
-    assert_eq!(rt; shelf.files().len(), 0);
-    assert_eq!(rt;
+    is(&rt, shelf.files().len(), 0);
+    is(
+        &rt,
         first_append(&mut shelf, "a", b"abcde")?,
-        Err(ShelfError::Failed)
+        Err(ShelfError::Failed),
     );
-    assert_eq!(rt; shelf.unsealed().len(), 1);
+    is(&rt, shelf.unsealed().len(), 1);
     let files = shelf.files();
     assert_eq!(rt; files.len(), 1);
-    assert_eq!(rt; files[0].1.as_slice(), b"ab".as_slice());
+    is(&rt, files[0].1.as_slice(), b"ab".as_slice());
     Ok(())
 }
 
@@ -132,6 +135,6 @@ fn a_listed_call_fails_and_half_of_its_bytes_stand(rt: HostRuntime) -> Result<()
 fn a_mem_sink_fails_at_listed_writes_and_past_its_capacity(rt: HostRuntime) -> Result<(), Fail> {
     let mut sink = MemSink::new(rt.alloc(), 4, vec![in rt.alloc(); 2]?)?;
     write_all(&rt, &mut sink);
-    assert_eq!(rt; sink.bytes(), b"abcd".as_slice());
+    is(&rt, sink.bytes(), b"abcd".as_slice());
     Ok(())
 }

@@ -1,5 +1,5 @@
 // What is written of statuses, reports and errors that no case of data shows.
-use super::orders::sink;
+use super::orders::{is, sink};
 use cook_bits::Name;
 use cook_restore::{FileError, FileWhy, PackageWhy};
 use cook_top::{Status, write_line, write_packed, write_restored};
@@ -17,7 +17,7 @@ fn shows(
     line: &str,
 ) -> Result<(), Fail> {
     let mut out = sink(alloc, 9)?;
-    assert_eq!(rt; write_line(&mut out, &status), Ok(()));
+    is(rt, write_line(&mut out, &status), Ok(()));
     assert_eq!(rt; out.bytes(), line.as_bytes(), "for {line:?}");
     assert_eq!(rt; status.number(), number, "for {line:?}");
     Ok(())
@@ -50,26 +50,31 @@ fn a_status_has_its_number_and_its_line(rt: HostRuntime) -> Result<(), Fail> {
 fn reports_have_their_numbers(rt: HostRuntime) -> Result<(), Fail> {
     let mut out = sink(rt.alloc(), 99)?;
     let most = 79228162495817593515539431425;
-    assert_eq!(rt; write_packed(&mut out, 1000000, 126, 10, u64::MAX), Ok(()));
-    assert_eq!(rt; write_restored(&mut out, 4294967295, most), Ok(()));
+    is(
+        &rt,
+        write_packed(&mut out, 1000000, 126, 10, u64::MAX),
+        Ok(()),
+    );
+    is(&rt, write_restored(&mut out, 4294967295, most), Ok(()));
     let lines = "packed 1000000 files, 126 tracks, 10 blocks, 18446744073709551615 bytes\n\
         restored 4294967295 files, 79228162495817593515539431425 bytes\n";
-    assert_eq!(rt; out.bytes(), lines.as_bytes());
+    is(&rt, out.bytes(), lines.as_bytes());
     Ok(())
 }
 
 #[test]
 fn a_failed_write_ends_the_line(rt: HostRuntime) -> Result<(), Fail> {
     let mut out = sink(rt.alloc(), 3)?;
-    assert_eq!(rt; write_packed(&mut out, 7, 0, 0, 145), Err(SinkFailed));
-    assert_eq!(rt; out.bytes(), b"packed 7".as_slice());
+    is(&rt, write_packed(&mut out, 7, 0, 0, 145), Err(SinkFailed));
+    is(&rt, out.bytes(), b"packed 7".as_slice());
     let name = Name::copy(rt.alloc(), "a/b")?;
     let mut out = sink(rt.alloc(), 2)?;
-    assert_eq!(rt;
+    is(
+        &rt,
         write_line(&mut out, &Status::Missing { name }),
-        Err(SinkFailed)
+        Err(SinkFailed),
     );
-    assert_eq!(rt; out.bytes(), b"cook: ".as_slice());
+    is(&rt, out.bytes(), b"cook: ".as_slice());
     Ok(())
 }
 
@@ -85,7 +90,7 @@ fn errors_have_their_texts(rt: HostRuntime) -> Result<(), Fail> {
         ),
     ];
     for (why, text) in table {
-        assert_eq!(rt; format!(in rt.alloc(); "{why}")?.as_str(), text);
+        is(&rt, format!(in rt.alloc(); "{why}")?.as_str(), text);
     }
     let table = [
         (FileWhy::Missing, "bad file 3: not there"),
@@ -94,7 +99,7 @@ fn errors_have_their_texts(rt: HostRuntime) -> Result<(), Fail> {
     ];
     for (why, text) in table {
         let error = FileError::File { number: 3, why };
-        assert_eq!(rt; format!(in rt.alloc(); "{error}")?.as_str(), text);
+        is(&rt, format!(in rt.alloc(); "{error}")?.as_str(), text);
     }
     Ok(())
 }

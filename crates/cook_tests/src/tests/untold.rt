@@ -1,6 +1,6 @@
 // A shelf that tells nothing, and lists what no disk would: in any order, twice, with names that aren't relative, with
 // lengths that aren't true. Each file has its offence, and the first in byte order of names is told.
-use super::orders::ends;
+use super::orders::{ends, is};
 use cook_bits::{Name, NoMemory};
 use cook_pack::{PackError, RefuseWhy, plan};
 use shelf_core::{CreateError, Entry, Shelf, ShelfError};
@@ -226,11 +226,11 @@ fn a_million_files_are_the_most(rt: HostRuntime) -> Result<(), Fail> {
             starved: 0,
         };
         match plan(rt.alloc(), &mut shelf, "d") {
-            Ok(plan) => assert_eq!(rt; plan.files(), 1_000_000),
+            Ok(plan) => is(&rt, plan.files(), 1_000_000),
             Err(PackError::Refused { name, why }) => {
-                assert_eq!(rt; more, 1_000_001);
-                assert_eq!(rt; name.as_str(), "1000000");
-                assert_eq!(rt; why, RefuseWhy::TooManyFiles);
+                is(&rt, more, 1_000_001);
+                is(&rt, name.as_str(), "1000000");
+                is(&rt, why, RefuseWhy::TooManyFiles);
             }
             Err(error) => return Err(Fail::from(error)),
         }
@@ -252,13 +252,13 @@ fn files_in_the_profile_are_planned(rt: HostRuntime) -> Result<(), Fail> {
         starved: 0,
     };
     let plan = plan(rt.alloc(), &mut shelf, "d")?;
-    assert_eq!(rt; plan.files(), 3);
-    assert_eq!(rt; plan.tracks(), 0);
-    assert_eq!(rt; plan.root(), "d");
+    is(&rt, plan.files(), 3);
+    is(&rt, plan.tracks(), 0);
+    is(&rt, plan.root(), "d");
     let table = [("a.dpx.txt", 1 << 49), ("b!", 0), ("b/dpx", 1 << 49)];
     for (file, (name, len)) in plan.as_slice().iter().zip(table) {
-        assert_eq!(rt; file.name.as_str(), name);
-        assert_eq!(rt; file.length, len);
+        is(&rt, file.name.as_str(), name);
+        is(&rt, file.length, len);
     }
     Ok(())
 }

@@ -2,7 +2,7 @@
 
 ghost use Rattle.std.specs.Prelude.{◌≡◌, ◌/◌, ◌%◌, ◌^◌, ◌<◌, ◌≤◌, ◌++◌, IfOk, OnOk};
 ghost use Rattle.cook_bits.specs.Bits.{low_bits};
-ghost use Rattle.flac_frame.specs.Spelling.{signed_field, signed_bits, unary_bits, values_bits, value_bits_of};
+ghost use Rattle.flac_frame.specs.Spelling.{signed_field, signed_bits, unary_bits, rice_code, values_bits, value_bits_of};
 ghost use Rattle.flac_predict.specs.Samples.{IsInside, AreInside};
 ghost use Rattle.flac_predict.specs.Rice.{zigzag};
 
@@ -100,8 +100,7 @@ fn put_long(writer: &mut BitWriter, tail: Tail, number: u32, parameter: u32) -> 
     requires short { tail.count < 32 }
     requires tail { tail.number < 2 ^ tail.count }
     requires parameter { parameter ≤ 30 }
-    ensures { OnOk result (writer.new ≡ (writer.old ++ low_bits tail.count tail.number) ++
-        (unary_bits (number / 2 ^ parameter) ++ low_bits parameter (number % 2 ^ parameter))) }
+    ensures { OnOk result (writer.new ≡ (writer.old ++ low_bits tail.count tail.number) ++ rice_code parameter number) }
 {
     writer.put(tail.number as u32, tail.count)?;
     put_unary(writer, number >> parameter)?;

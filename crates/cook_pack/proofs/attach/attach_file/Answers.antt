@@ -1,7 +1,7 @@
 use Rattle.std.proofs.Common.{◌≡◌, ◌∙◌, false, arith, rules}
 use Rattle.shelf_core.specs.Reads.{bytes_of}
 use Rattle.shelf_core.specs.Writes.{GrewInPart}
-use Rattle.cook_pack.specs.Pieces.{attached_file, attached_head}
+use Rattle.matroska_write.specs.Attached.{attached_file, attached_head}
 use Rattle.cook_pack.proofs.AttachLaws.{attached_both, sum_of_attached, stopped_in_head, stopped_in_content}
 use Rattle.cook_pack.proofs.GrowLaws.{GrewInPart-nothing, on_err}
 use Rattle.cook_pack.proofs.attach.attach_file.Goals as goal

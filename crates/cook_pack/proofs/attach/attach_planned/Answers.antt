@@ -4,7 +4,7 @@ use Rattle.md5.specs.Md5.{md5}
 use Rattle.cook_bits.specs.Names.{full_name}
 use Rattle.shelf_core.specs.Told.{content}
 use Rattle.shelf_core.specs.Writes.{Grew, GrewInPart}
-use Rattle.cook_pack.specs.Pieces.{attached_file}
+use Rattle.matroska_write.specs.Attached.{attached_file}
 use Rattle.cook_pack.proofs.GrowLaws.{GrewInPart-nothing, on_err}
 use Rattle.cook_pack.proofs.PlannedLaws.{is_record}
 use Rattle.cook_pack.proofs.attach.attach_planned.Goals as goal

@@ -1,6 +1,7 @@
-use Rattle.std.proofs.Common.{◌+◌, length, refl, ap, subst, ◌∙◌, sym, arith}
+use Rattle.std.proofs.Common.{◌+◌, All, length, refl, ap, subst, ◌∙◌, sym, arith}
 use Rattle.std.proofs.lemmas.Result.{err_from_is_err_and}
-use Rattle.reversal.specs.SideData.{AreRecords}
+use Rattle.reversal.specs.SideData.{AreRecords, IsOther}
+use Rattle.reversal.specs.Lengths.{others_have_no_parts}
 use Rattle.cook_pack.specs.Attaching.{files_on}
 use Rattle.cook_pack.specs.Package.{others_of, records_of, side_attached}
 use Rattle.cook_pack.proofs.AttachLaws.{StopsFor-later}
@@ -15,6 +16,11 @@ returns-in_err-attached-clause-stopped g c =
 
 pub attach_side-requires-clause-are : goal.attach_side-requires-clause-are
 attach_side-requires-clause-are g c = subst AreRecords (sym c.as_slice-records.ensures.value) (records-are _ _ _ c.requires.ready.sound c.in_ok-attached.ensures.records)
+
+pub attach_side-requires-clause-small : goal.attach_side-requires-clause-small
+attach_side-requires-clause-small g c =
+    let others : All IsOther c.as_slice-records.result.now = subst (All IsOther) (sym c.as_slice-records.ensures.value) (λ k d lt. (c.in_ok-attached.ensures.records.plain k d lt).other) in
+    omega (arith, others_have_no_parts c.as_slice-records.result.now others)
 
 pub attach_side-requires-clause-few : goal.attach_side-requires-clause-few
 attach_side-requires-clause-few g c = omega (arith, ap length c.as_slice-records.ensures.value, few-records (g.S.Shelf.files c.args.shelf.now) c.args.plan.now _ c.requires.ready.sound c.in_ok-attached.ensures.records)

@@ -1,6 +1,6 @@
-use Rattle.std.proofs.Common.{◌≡◌, ◌++◌, length, ap, subst, ◌∙◌, sym, arith}
+use Rattle.std.proofs.Common.{◌≡◌, ◌+◌, ◌++◌, length, ap, subst, ◌∙◌, sym, arith}
 use Rattle.shelf_core.specs.Writes.{Grew, GrewInPart}
-use Rattle.reversal.specs.SideData.{names_of, side_data_len}
+use Rattle.reversal.specs.SideData.{all_parts_len, names_of, side_data_len}
 use Rattle.reversal.specs.Lengths.{names_long}
 use Rattle.cook_pack.specs.Package.{side_attached}
 use Rattle.cook_pack.proofs.GrowLaws.{GrewInPart-nothing, on_err}
@@ -13,8 +13,8 @@ returns-in_err-side-clause-stopped g c = on_err _ (GrewInPart-nothing _ _ _ _ c.
 pub attached_head-requires-clause-content : goal.attached_head-requires-clause-content
 attached_head-requires-clause-content g c =
     let short = side_data_len-le (names_of c.args.records.now) c.requires.are.named.relative (omega (arith, names_long c.args.records.now, c.requires.few)) in
-    let long : length c.as_slice.result.now ≡ side_data_len (names_of c.args.records.now) = ap length c.as_slice.ensures ∙ c.in_ok-side.ensures.long in
-    omega (arith, short, long)
+    let long : length c.as_slice.result.now ≡ side_data_len (names_of c.args.records.now) + all_parts_len c.args.records.now = ap length c.as_slice.ensures ∙ c.in_ok-side.ensures.long in
+    omega (arith, short, long, c.requires.small)
 
 pub returns-in_err-head-clause-stopped : goal.returns-in_err-head-clause-stopped
 returns-in_err-head-clause-stopped g c = on_err _ (GrewInPart-nothing _ _ _ _ c.requires.to_there)

@@ -1,4 +1,4 @@
-use Rattle.std.proofs.Common.{◌≡◌, sym, ap, subst, ◌∙◌, ◌++◌, ◌∷◌, [], take, false, true, rules}
+use Rattle.std.proofs.Common.{◌≡◌, sym, ap, ◌∙◌, ◌++◌, ◌∷◌, [], take, false, true, rules}
 use Rattle.reversal.specs.SideData.{names_of}
 use Rattle.reversal.proofs.NameFaults.{bad_start, bad_here, bad_later, bad_end, sorted_none, sorted_more, judged, some_at, one_more}
 use Rattle.reversal.proofs.names.first_bad_name.Goals as goal

@@ -19,8 +19,9 @@ overflow_sub-ahead-then-next-gt0 c =
 pub returns-then-next-gt0 : goal.returns-then-next-gt0
 returns-then-next-gt0 c =
     let ahead = c.loop-ahead.ahead in
-    finds c.loop-ahead.zeros ahead.held ahead.word c.ilog2-highest.result c.saturating_add.result (low_bits c.args.held c.args.word ++ bits_of c.args.rest.now) (bits_of ahead.rest.now)
-    c.loop-ahead.invariant.0 c.loop-ahead.invariant.2 c.ilog2-highest.ensures.power_le c.ilog2-highest.ensures.next_power_gt c.saturating_add.ensures
+    let found = finds c.loop-ahead.zeros ahead.held ahead.word c.ilog2-highest.result c.saturating_add.result (low_bits c.args.held c.args.word ++ bits_of c.args.rest.now) (bits_of ahead.rest.now)
+    c.loop-ahead.invariant.0 c.loop-ahead.invariant.2 c.ilog2-highest.ensures.power_le c.ilog2-highest.ensures.next_power_gt c.saturating_add.ensures in
+    record { none = tt; held = found.0; some = found.1 }
 
 pub loop-ahead-smaller : goal.loop-ahead-smaller
 loop-ahead-smaller c =
@@ -41,4 +42,8 @@ loop-ahead-preserved c =
 pub returns : goal.returns
 returns c =
     let ahead = c.loop-ahead.ahead in
-    runs_out c.loop-ahead.zeros ahead.held ahead.word (low_bits c.args.held c.args.word ++ bits_of c.args.rest.now) ahead.rest.now c.loop-ahead.invariant.2 c.loop-ahead-test.false (c.loop-ahead.invariant.1 (omega arith))
+    record {
+      none = runs_out c.loop-ahead.zeros ahead.held ahead.word (low_bits c.args.held c.args.word ++ bits_of c.args.rest.now) ahead.rest.now c.loop-ahead.invariant.2 c.loop-ahead-test.false (c.loop-ahead.invariant.1 (omega arith));
+      held = tt;
+      some = tt;
+    }

@@ -1,0 +1,2 @@
+pub mod ClusterLaws
+pub mod TrackLaws
