@@ -1,5 +1,6 @@
 -- What the package of a directory gives back.
-use Rattle.std.proofs.Common.{◌≡◌, ℕ, ◌≤◌, true, false, List, [], ◌∷◌, ◌++◌, length, map, Some, None, Result, Ok, IsUtf8, refl, sym, ap, ◌∙◌, subst, arith}
+use Rattle.std.proofs.Common.{◌≡◌, ℕ, ◌≤◌, true, false, List, [], ◌∷◌, ◌++◌, length, map, Some, None, Result, Ok, IsUtf8, refl, sym, ap, ◌∙◌, subst, arith, ◌==◌}
+use Rattle.std.proofs.lemmas.Bool.Decides.{nat_tests}
 use Rattle.std.specs.Ordering.{nat_cmp, is_eq}
 use Rattle.std.specs.declared.cmp.Ordering.TheVariants.{Less}
 use Rattle.std.specs.Cmp.{tied_itself}
@@ -24,10 +25,10 @@ use Rattle.matroska_read.specs.Places.{Attached, Outline}
 use Rattle.cook_restore.specs.declared.error.FileWhy.{FileWhy}
 use Rattle.cook_restore.specs.Meaning.{side_seen, others_seen, seen_as, checked, content_of_file, content_meant, with_file_meant, files_meant, records_meant, side_meant, outline_meant, meaning_of}
 use Rattle.matroska_read.specs.Outline.{outline_of}
-use Rattle.matroska_read.proofs.SpelledWalk.{same_id}
 use Rattle.cook_top.specs.RoundTrip.{file_names, IsDirectory, shown_file, shown_side, outline_shown}
 use Rattle.cook_top.proofs.ProfileLaws.{Keeps, keeps}
-use Rattle.cook_top.proofs.AttachmentsLaws.{IsSmall, small_files, names-recorded}
+use Rattle.cook_top.proofs.AttachmentLengths.{IsSmall, small_files, names-recorded}
+use Rattle.matroska_read.specs.Spelled.{SpelledIsOutline}
 use Rattle.cook_top.proofs.PackageLaws.{package_shows}
 
 -- ---- the side data is apart from the files
@@ -75,7 +76,9 @@ all_found (file ∷ directory) sorted = (found_here file (map shown_file directo
 
 content_checked : (file : File) → checked (other_record file) file.1 ≡ Ok file.1
 unfolding checked
-content_checked file = rw (same_id (length file.1) (length file.1) refl, same_name (md5 file.1)) refl
+content_checked file =
+    let same : (length file.1 == length file.1) ≡ true = grind (arith, nat_tests) in
+    rw (same, same_name (md5 file.1)) refl
 
 Gives : (FileRecord → Result (List ℕ) FileWhy) → File → Type 0
 Gives find file = find (other_record file) ≡ Ok file.1
@@ -145,5 +148,5 @@ shown_means bytes directory rate is keeps shown =
     meaning_by bytes outline (shown_side records) records shown of_side (side_read_again directory is keeps)
     ∙ files_given (content_meant outline) directory (all_given outline (map shown_file directory) directory others (all_found directory sorted))
 
-pub package_means : (directory : List File) (rate : ℕ) → IsDirectory directory → IsInProfile directory → 1 ≤ rate → rate ≤ 240 → meaning_of (package_of directory rate) ≡ record { files = directory; end = None }
-package_means directory rate is profile low high = shown_means (package_of directory rate) directory rate is (keeps directory profile) (package_shows directory rate profile low high)
+pub package_means : SpelledIsOutline → (directory : List File) (rate : ℕ) → IsDirectory directory → IsInProfile directory → 1 ≤ rate → rate ≤ 240 → meaning_of (package_of directory rate) ≡ record { files = directory; end = None }
+package_means spelled directory rate is profile low high = shown_means (package_of directory rate) directory rate is (keeps directory profile) (package_shows spelled directory rate profile low high)

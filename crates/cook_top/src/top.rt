@@ -11,6 +11,7 @@ ghost use Rattle.cook_top.specs.Packing.{ShowsPackError};
 ghost use Rattle.cook_top.specs.Statuses.{status_of_pack_error};
 ghost use Rattle.cook_top.specs.Texts.{line_of, pack_line, restore_line};
 
+use crate::laws::h3;
 use crate::restore::{RestoreSum, restore_package};
 use crate::{Order, Status, read_words, write_line, write_packed, write_restored};
 use cook_pack::{Options, PackError, PackSum, pack, plan};
@@ -36,6 +37,7 @@ fn pack_directory<S: Shelf>(
     ensures cause { IfErr result (λ error. ShowsPackError S.Shelf options.workers options.rate dir.now pkg.now shelf.old shelf.new error) }
     ensures counts { CountsStay S.Shelf shelf.old shelf.new }
 {
+    h3();
     let plan = plan(alloc, shelf, dir)?;
     pack(alloc, shelf, &plan, pkg, options)
 }

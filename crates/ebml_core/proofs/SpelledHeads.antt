@@ -90,9 +90,9 @@ size_meant-known len size fits =
     rw test refl
 
 -- the written size is the size that is read
-size_at-written : (size : ℕ) (rest : List ℕ) → size < 2 ^ 56 - 1 → size_at (size_bytes size ++ rest) ≡ Some (Known size, shortest_size size)
+pub written_size : (size : ℕ) (rest : List ℕ) → size < 2 ^ 56 - 1 → size_at (size_bytes size ++ rest) ≡ Some (Known size, shortest_size size)
 unfolding size_bytes
-size_at-written size rest known =
+written_size size rest known =
     let len = shortest_size size in
     let holds = shortest_size-holds size known in
     let e = spelled_size (shortest_size size) size rest (shortest_size-positive size) (shortest_size-le size) (omega arith) in
@@ -113,5 +113,5 @@ written_head id size rest identifier known =
     let first = id_at-written id (size_bytes size ++ rest) identifier in
     let count = length-uint_bytes id in
     let left : drop (byte_count id) (uint_bytes id ++ (size_bytes size ++ rest)) ≡ size_bytes size ++ rest = ap (λ (n : ℕ). drop n (uint_bytes id ++ (size_bytes size ++ rest))) (sym count) ∙ drop-append_seam (uint_bytes id) (size_bytes size ++ rest) in
-    let second = size_at-written size rest known in
+    let second = written_size size rest known in
     rw (parts, first, left, second, length-head_parts id size) refl

@@ -5,13 +5,17 @@ use Rattle.cook_bits.specs.Bits.{AreBytes}
 use Rattle.ebml_core.specs.declared.parts.Size.{Size}
 use Rattle.ebml_core.specs.declared.parts.Size.TheVariants.{Known}
 use Rattle.ebml_core.specs.declared.parts.Head.{Head}
-use Rattle.ebml_core.specs.Element.{is_vint, IsIdentifier, head_of}
+use Rattle.ebml_core.specs.Element.{is_vint, IsIdentifier, shortest_size, size_bytes, head_of}
 use Rattle.ebml_core.specs.Reading.{id_at, size_meant, size_at, head_at}
 
 -- the head that is written is the head that is read, whatever follows it
 abbrev pub WrittenHeadIsRead : Type 0
 WrittenHeadIsRead =
     (id size : ℕ) (rest : List ℕ) → IsIdentifier id → size < 2 ^ 56 - 1 → head_at (head_of id size ++ rest) ≡ Some (record { id = id; size = Known size; len = length (head_of id size) })
+
+-- the size that is written is the size that is read, whatever follows it
+abbrev pub WrittenSizeIsRead : Type 0
+WrittenSizeIsRead = (size : ℕ) (rest : List ℕ) → size < 2 ^ 56 - 1 → size_at (size_bytes size ++ rest) ≡ Some (Known size, shortest_size size)
 
 -- each spelling of an identifier is read, whatever follows it
 abbrev pub SpelledIdIsRead : Type 0

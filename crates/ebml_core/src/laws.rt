@@ -1,12 +1,18 @@
 //! What holds of elements as they are written and read. Each function does nothing: its contract is
 //! the law, which a proof elsewhere can cite.
 
-ghost use Rattle.ebml_core.specs.Laws.{WrittenHeadIsRead, SpelledIdIsRead, SpelledSizeIsRead, ReadIdIsSpelled, ReadSizeIsSpelled, HeadStays, TwelveBytesTell};
+ghost use Rattle.ebml_core.specs.Laws.{WrittenHeadIsRead, WrittenSizeIsRead, SpelledIdIsRead, SpelledSizeIsRead, ReadIdIsSpelled, ReadSizeIsSpelled, HeadStays, TwelveBytesTell};
 
 /// The head that is written is the head that is read, whatever follows it.
 #[tactic(auto, using(crate::proofs::SpelledHeads::written_head))]
 pub fn written_head_is_read()
     ensures { WrittenHeadIsRead }
+{}
+
+/// The size that is written is the size that is read, whatever follows it.
+#[tactic(auto, using(crate::proofs::SpelledHeads::written_size))]
+pub fn written_size_is_read()
+    ensures { WrittenSizeIsRead }
 {}
 
 /// Each spelling of an identifier and of a size is read, whatever follows it.

@@ -5,3 +5,9 @@ pub mod HeadLaws
 pub mod NumberLaws
 pub mod SpelledWalk
 pub mod TopLaws
+pub mod SpelledSays
+pub mod SpelledHeader
+pub mod SpelledTracks
+pub mod SpelledFiles
+pub mod SpelledClusters
+pub mod SpelledSegment

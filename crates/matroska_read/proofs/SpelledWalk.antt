@@ -113,7 +113,7 @@ walked-spelled visit bytes end place id content rest state next is visited =
 -- ---- a Segment of unknown size
 
 -- a head that the bytes at a place begin with
-head_in-front : (bytes : List ℕ) (end place : ℕ) (front rest : List ℕ) (head : Head) → head_at front ≡ Some head → Stands bytes place front rest → place + length front ≤ end → head_in end place bytes ≡ Some head
+pub head_in-front : (bytes : List ℕ) (end place : ℕ) (front rest : List ℕ) (head : Head) → head_at front ≡ Some head → Stands bytes place front rest → place + length front ≤ end → head_in end place bytes ≡ Some head
 unfolding head_in
 head_in-front bytes end place front rest head read stands within =
     let room : end - place ≡ length front + (end - place - length front) = omega arith in

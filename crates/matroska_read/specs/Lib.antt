@@ -6,6 +6,7 @@ pub mod Numbers
 pub mod Outline
 pub mod Places
 pub mod PlacesLaws
+pub mod Spelled
 pub mod Tracks
 pub mod Walk
 pub mod WalkGoesOn

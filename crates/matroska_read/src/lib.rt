@@ -11,6 +11,7 @@ mod entry;
 mod error;
 mod files;
 mod header;
+pub mod laws;
 mod numbers;
 mod parts;
 mod segment;
