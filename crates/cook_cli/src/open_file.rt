@@ -1,20 +1,20 @@
-//! Files of the system that are kept open between calls.
+//! A file of the system that is kept open between calls.
 ghost use Rattle.std.specs.Prelude.{◌≡◌, ◌≤◌, ◌↔◌, length, string_bytes, IsTrue, IfOk, OnOk, IfSome};
 
 use std::fs::{File, OpenOptions};
-use std::io::{self, ErrorKind, Write};
+use std::io::{self, ErrorKind};
 use std::os::unix::fs::FileExt;
 
 /// An open file, with the name by which it was opened.
 #[derive(Drop)]
 pub(crate) struct OpenFile {
-    name: String,
-    file: File,
+    pub(crate) name: String,
+    pub(crate) file: File,
 }
 
 impl OpenFile {
-    // The name is copied first, so that want of memory leaves the disk as it was.
-    fn open(system: &HostRuntime, name: &str, how: &OpenOptions) -> io::Result<OpenFile>
+    /// Opens a file. The name is copied first, so that want of memory leaves the disk as it was.
+    pub(crate) fn open(system: &HostRuntime, name: &str, how: &OpenOptions) -> io::Result<OpenFile>
         ensures { IfOk result (λ opened. string_bytes opened.name ≡ name.now) }
     {
         let kept = String::from_str(system.alloc(), name)?;
@@ -22,33 +22,7 @@ impl OpenFile {
         Ok(OpenFile { name: kept, file })
     }
 
-    /// Makes an empty file and opens it for writing. A name that is there, be it a link that leads nowhere, is
-    /// `AlreadyExists`, and stays as it is.
-    pub(crate) fn create(system: &HostRuntime, name: &str) -> io::Result<OpenFile>
-        ensures { IfOk result (λ opened. string_bytes opened.name ≡ name.now) }
-    {
-        let mut how = OpenOptions::new();
-        how.write(true).create_new(true);
-        OpenFile::open(system, name, &how)
-    }
-
-    fn for_reading(system: &HostRuntime, name: &str) -> io::Result<OpenFile>
-        ensures { IfOk result (λ opened. string_bytes opened.name ≡ name.now) }
-    {
-        let mut how = OpenOptions::new();
-        how.read(true);
-        OpenFile::open(system, name, &how)
-    }
-
-    fn for_appending(system: &HostRuntime, name: &str) -> io::Result<OpenFile>
-        ensures { IfOk result (λ opened. string_bytes opened.name ≡ name.now) }
-    {
-        let mut how = OpenOptions::new();
-        how.append(true);
-        OpenFile::open(system, name, &how)
-    }
-
-    fn is_named(&self, name: &str) -> bool
+    pub(crate) fn is_named(&self, name: &str) -> bool
         ensures { IsTrue result ↔ (string_bytes self.now.name ≡ name.now) }
     {
         self.name.as_str() == name
@@ -88,77 +62,16 @@ pub(crate) fn read(
 {
     let open = match slot.take().filter(|open| open.is_named(name)) {
         Some(open) => open,
-        None => OpenFile::for_reading(system, name)?,
+        None => OpenFile::open(system, name, OpenOptions::new().read(true))?,
     };
     let count = read_piece(&open.file, at, buf);
     *slot = Some(open);
     count
 }
 
-/// Adds all bytes at the end of a file that is there. A write that takes nothing of them is an error. The file stays
-/// open for the next call.
-pub(crate) fn append(
-    system: &HostRuntime,
-    slot: &mut Option<OpenFile>,
-    name: &str,
-    bytes: &[u8],
-) -> io::Result<()>
-    ensures named { OnOk result (IfSome slot.new (λ opened. string_bytes opened.name ≡ name.now)) }
-{
-    let mut open = match slot.take().filter(|open| open.is_named(name)) {
-        Some(open) => open,
-        None => OpenFile::for_appending(system, name)?,
-    };
-    let done = open.file.write_all(bytes);
-    *slot = Some(open);
-    done
-}
-
-/// Whether a sealed file is on the disk, or left to the system to write.
-#[derive(Clone, Copy, Debug, PartialEq, Eq)]
-pub(crate) enum Sealing {
-    OnDisk,
-    LeftToSystem,
-}
-
-/// Closes a file. Where it is to be on the disk, it waits until the disk holds the file whole.
-pub(crate) fn seal(
-    system: &HostRuntime,
-    slot: &mut Option<OpenFile>,
-    name: &str,
-    sealing: Sealing,
-) -> io::Result<()> {
-    let open = match slot.take().filter(|open| open.is_named(name)) {
-        Some(open) => open,
-        None => OpenFile::for_appending(system, name)?,
-    };
-    if sealing == Sealing::OnDisk {
-        open.file.sync_all()?;
-        sync_folder(system, name);
-    }
-    Ok(())
-}
-
-/// The folder in which a name stands.
-fn folder_of(name: &str) -> &str {
-    match name.rsplit_once('/') {
-        None => ".",
-        Some(("", _)) => "/",
-        Some((folder, _)) => folder,
-    }
-}
-
-/// Asks the disk to hold the name of a file too. Not every file system can, and some folders may not be opened, so an
-/// error here is none of the file's.
-fn sync_folder(system: &HostRuntime, name: &str) {
-    if let Ok(folder) = File::open(system, folder_of(name)) {
-        let _ = folder.sync_all();
-    }
-}
-
 #[cfg(test)]
 mod tests {
-    use super::{folder_of, read_piece};
+    use super::read_piece;
     use crate::tests::is;
     use std::cell::Cell;
     use std::io::{self, ErrorKind};
@@ -203,12 +116,5 @@ mod tests {
         is(&rt, read_piece(&file, 2, &mut buf)?, 1);
         is(&rt, buf, *b"cb");
         Ok(())
-    }
-
-    #[test]
-    fn the_folder_of_a_name_is_what_stands_before_its_last_slash(rt: HostRuntime) {
-        for (name, folder) in [("a", "."), ("/a", "/"), ("a/b", "a"), ("/a/b/c", "/a/b")] {
-            is(&rt, folder_of(name), folder);
-        }
     }
 }

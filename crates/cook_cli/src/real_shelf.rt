@@ -1,29 +1,26 @@
-ghost use Rattle.std.specs.Prelude.{◌≡◌, ◌≤◌, IfOk, IfSome, string_bytes};
+ghost use Rattle.std.specs.Prelude.{◌≡◌, ◌≤◌, Some, IfOk};
 ghost use Rattle.shelf_core.specs.Causes.{HasCause, Rose};
 
-use crate::open_file::{self, OpenFile, Sealing};
+use crate::fault::Fault;
+use crate::measured::{Measured, stamp_of};
+use crate::open_file::{self, OpenFile};
+use crate::unsealed::{self, Sealing, Unsealed};
 use crate::walk;
 use shelf_core::{CreateError, Entry, Shelf, ShelfError};
 use std::fs;
 use std::io::{self, ErrorKind};
 
-/// What the system said of a name where a call failed.
-#[derive(Drop)]
-pub(crate) struct Fault {
-    pub(crate) name: String,
-    pub(crate) error: io::Error,
-}
-
-/// The files of the system. One file is kept open for reading and one for writing.
+/// The files of the system. One file is kept open for reading, and each that is being written.
 #[derive(Drop)]
 pub struct RealShelf {
     system: HostRuntime,
     reading: Option<OpenFile>,
-    writing: Option<OpenFile>,
+    unsealed: Vec<Unsealed>,
+    measured: Measured,
     sealing: Sealing,
     faults: u64,
     starved: u64,
-    /// The last fault that was counted, if there was memory to keep it.
+    /// The last fault that was counted.
     pub(crate) last_fault: Option<Fault>,
 }
 
@@ -36,7 +33,8 @@ impl RealShelf {
         RealShelf {
             system,
             reading: None,
-            writing: None,
+            unsealed: Vec::new(system.alloc()),
+            measured: Measured::new(system.alloc()),
             sealing,
             faults: 0,
             starved: 0,
@@ -44,46 +42,88 @@ impl RealShelf {
         }
     }
 
-    /// Counts an error of the system at a name: want of memory by itself, and every other as a fault, which is kept.
-    fn refusal(&mut self, name: &str, error: io::Error) -> ShelfError
+    /// Counts why a call failed: want of memory by itself, and all else as a fault, which is kept.
+    fn refusal(&mut self, fault: Fault) -> ShelfError
         ensures faults_kept { self.old.faults ≤ self.new.faults }
         ensures starved_kept { self.old.starved ≤ self.new.starved }
         ensures fault { result ≡ ShelfError.Failed → Rose self.old.faults self.new.faults }
         ensures want { result ≡ ShelfError.NoMemory → Rose self.old.starved self.new.starved }
-        ensures named { result ≡ ShelfError.Failed → IfSome self.new.last_fault (λ fault. string_bytes fault.name ≡ name.now) }
+        ensures kept { result ≡ ShelfError.Failed → self.new.last_fault ≡ Some fault }
     {
-        if error.kind() == ErrorKind::OutOfMemory {
+        if fault.error.kind() == ErrorKind::OutOfMemory {
             self.starved = self.starved.saturating_add(1);
             ShelfError::NoMemory
         } else {
             self.faults = self.faults.saturating_add(1);
-            let kept = String::from_str(self.system.alloc(), name).ok();
-            self.last_fault = kept.map(|name| Fault { name, error });
+            self.last_fault = Some(fault);
             ShelfError::Failed
         }
     }
 
-    /// Hands on what the system gave for a name, or counts its error.
-    fn answer<T: Drop>(&mut self, name: &str, done: io::Result<T>) -> Result<T, ShelfError>
+    /// Hands on what a call gave, or counts why it failed.
+    fn answer<T: Drop>(&mut self, done: Result<T, Fault>) -> Result<T, ShelfError>
         ensures given { IfOk result (λ value. done ≡ Ok value) }
         ensures cause { HasCause ShelfError.Failed ShelfError.NoMemory self.old.faults self.new.faults self.old.starved self.new.starved result }
     {
         match done {
             Ok(value) => Ok(value),
-            Err(error) => Err(self.refusal(name, error)),
+            Err(fault) => Err(self.refusal(fault)),
         }
     }
-}
 
-/// The length of a plain file, and `None` where there is nothing by that name. Anything else by that name is an error.
-fn length(system: &HostRuntime, name: &str) -> io::Result<Option<u64>> {
-    match fs::metadata(system, name) {
-        Ok(found) if found.is_file() => Ok(Some(found.len())),
-        Ok(_) => Err(ErrorKind::Unsupported.into()),
-        Err(error) => match error.kind() {
-            ErrorKind::NotFound | ErrorKind::NotADirectory => Ok(None),
-            _ => Err(error),
-        },
+    /// Hands on what the system gave for a name, or counts its error.
+    fn answer_for<T: Drop>(&mut self, name: &str, done: io::Result<T>) -> Result<T, ShelfError>
+        ensures given { IfOk result (λ value. done ≡ Ok value) }
+        ensures cause { HasCause ShelfError.Failed ShelfError.NoMemory self.old.faults self.new.faults self.old.starved self.new.starved result }
+    {
+        let alloc = self.system.alloc();
+        self.answer(done.map_err(|error| Fault::at(alloc, name, error)))
+    }
+
+    /// The length of a plain file, which is remembered with the time of its last change, but for a file that this shelf is
+    /// writing. `None` where there is nothing by that name.
+    fn measure(&mut self, name: &str) -> io::Result<Option<u64>>
+        ensures faults { self.new.faults ≡ self.old.faults }
+        ensures starved { self.new.starved ≡ self.old.starved }
+    {
+        let Some(stamp) = stamp_of(&self.system, name)? else {
+            return Ok(None);
+        };
+        if !unsealed::is_writing(self.unsealed.as_slice(), name) {
+            self.measured.keep(name, stamp)?;
+        }
+        Ok(Some(stamp.len))
+    }
+
+    /// Looks again at the file that is open for reading. That it changed since its length was asked is a fault.
+    fn look_again(&mut self) -> Result<(), ShelfError>
+        ensures cause { HasCause ShelfError.Failed ShelfError.NoMemory self.old.faults self.new.faults self.old.starved self.new.starved result }
+    {
+        let Some(open) = &self.reading else {
+            return Ok(());
+        };
+        let name = open.name.as_str();
+        let seen = match self.measured.look_again(&self.system, name) {
+            Ok(()) => Ok(()),
+            Err(error) => Err(Fault::at(self.system.alloc(), name, error)),
+        };
+        self.answer(seen)
+    }
+
+    /// Leaves the file that is open for reading, unless it has this name.
+    fn leave_for(&mut self, name: &str) -> Result<(), ShelfError>
+        ensures cause { HasCause ShelfError.Failed ShelfError.NoMemory self.old.faults self.new.faults self.old.starved self.new.starved result }
+    {
+        if self
+            .reading
+            .as_ref()
+            .is_some_and(|open| open.is_named(name))
+        {
+            return Ok(());
+        }
+        let seen = self.look_again();
+        self.reading = None;
+        seen
     }
 }
 
@@ -109,45 +149,47 @@ impl Shelf for RealShelf {
 
     fn list(&mut self, root: &str) -> Result<Vec<Entry>, ShelfError> {
         let done = walk::list(&self.system, root);
-        self.answer(root, done)
+        self.answer(done)
     }
 
     fn len(&mut self, name: &str) -> Result<Option<u64>, ShelfError> {
-        let done = length(&self.system, name);
-        self.answer(name, done)
+        let done = self.measure(name);
+        self.answer_for(name, done)
     }
 
     fn read_at(&mut self, name: &str, at: u64, buf: &mut [u8]) -> Result<usize, ShelfError> {
+        self.leave_for(name)?;
         let done = open_file::read(&self.system, &mut self.reading, name, at, buf);
-        self.answer(name, done)
+        self.answer_for(name, done)
     }
 
     fn create(&mut self, name: &str) -> Result<(), CreateError> {
-        match OpenFile::create(&self.system, name) {
-            Ok(open) => {
-                self.writing = Some(open);
-                Ok(())
-            }
+        match unsealed::create(&self.system, &mut self.unsealed, name) {
+            Ok(()) => Ok(()),
             Err(error) if error.kind() == ErrorKind::AlreadyExists => Err(CreateError::Exists),
-            Err(error) => match self.refusal(name, error) {
-                ShelfError::Failed => Err(CreateError::Failed),
-                ShelfError::NoMemory => Err(CreateError::NoMemory),
-            },
+            Err(error) => {
+                let fault = Fault::at(self.system.alloc(), name, error);
+                match self.refusal(fault) {
+                    ShelfError::Failed => Err(CreateError::Failed),
+                    ShelfError::NoMemory => Err(CreateError::NoMemory),
+                }
+            }
         }
     }
 
     fn make_folder(&mut self, name: &str) -> Result<(), ShelfError> {
         let done = fs::create_dir_all(&self.system, name);
-        self.answer(name, done)
+        self.answer_for(name, done)
     }
 
     fn append(&mut self, name: &str, bytes: &[u8]) -> Result<(), ShelfError> {
-        let done = open_file::append(&self.system, &mut self.writing, name, bytes);
-        self.answer(name, done)
+        let done = unsealed::append(&mut self.unsealed, name, bytes);
+        self.answer_for(name, done)
     }
 
     fn seal(&mut self, name: &str) -> Result<(), ShelfError> {
-        let done = open_file::seal(&self.system, &mut self.writing, name, self.sealing);
-        self.answer(name, done)
+        self.look_again()?;
+        let done = unsealed::seal(&self.system, &mut self.unsealed, name, self.sealing);
+        self.answer_for(name, done)
     }
 }

@@ -1,6 +1,6 @@
-use crate::open_file::Sealing;
 use crate::real_shelf::RealShelf;
 use crate::sealing_of;
+use crate::unsealed::Sealing;
 use cook_top::{Status, cook};
 use shelf_core::{CreateError, Entry, MemShelf, MemSink, Shelf, ShelfError};
 use std::alloc::{AllocError, Global};
@@ -33,6 +33,8 @@ fn a_file_is_created_once_grows_and_is_read_in_pieces(rt: HostRuntime) -> Result
     is(&rt, shelf.append(song, b"world"), Ok(()));
     is(&rt, shelf.seal(song), Ok(()));
     is(&rt, shelf.create(song), Err(CreateError::Exists));
+    is(&rt, shelf.append(song, b"!"), Err(ShelfError::Failed));
+    is(&rt, shelf.seal(song), Err(ShelfError::Failed));
     let mut buf = [0; 4];
     is(&rt, shelf.read_at(song, 0, &mut buf), Ok(4));
     is(&rt, buf, *b"hell");
@@ -55,10 +57,34 @@ fn a_file_is_created_once_grows_and_is_read_in_pieces(rt: HostRuntime) -> Result
         Err(CreateError::Failed),
     );
     let fault = shelf.last_fault.as_ref().ok_or("a fault")?;
-    is(&rt, fault.name.as_str(), "written/none/a");
+    is(&rt, fault.name.as_deref(), Some("written/none/a"));
     is(&rt, fault.error.kind(), ErrorKind::NotFound);
     is(&rt, shelf.make_folder(song), Err(ShelfError::Failed));
     fs::remove_dir_all(&rt, "written")?;
+    Ok(())
+}
+
+// A file that another program writes in between is a fault where the shelf leaves it, and where a file is sealed.
+#[tactic(auto, unfolding(shelf_core::specs::Told::IsUnsealedIn, shelf_core::specs::Told::HasFile))]
+#[test]
+fn a_file_that_changed_since_it_was_measured_is_a_fault(rt: HostRuntime) -> Result<(), Fail> {
+    let _ = fs::remove_dir_all(&rt, "changing");
+    fs::create_dir_all(&rt, "changing")?;
+    fs::write(&rt, "changing/a", b"one".as_slice())?;
+    let mut shelf = RealShelf::new(rt, Sealing::OnDisk);
+    is(&rt, shelf.create("changing/p"), Ok(()));
+    is(&rt, shelf.len("changing/a"), Ok(Some(3)));
+    is(&rt, shelf.read_at("changing/a", 0, &mut [0; 4]), Ok(3));
+    fs::write(&rt, "changing/a", b"other".as_slice())?;
+    is(&rt, shelf.seal("changing/p"), Err(ShelfError::Failed));
+    let left = shelf.read_at("changing/p", 0, &mut [0; 4]);
+    is(&rt, left, Err(ShelfError::Failed));
+    let fault = shelf.last_fault.as_ref().ok_or("a fault")?;
+    is(&rt, fault.name.as_deref(), Some("changing/a"));
+    is(&rt, shelf.len("changing/a"), Ok(Some(5)));
+    is(&rt, shelf.read_at("changing/a", 0, &mut [0; 4]), Ok(4));
+    is(&rt, shelf.seal("changing/p"), Ok(()));
+    fs::remove_dir_all(&rt, "changing")?;
     Ok(())
 }
 
@@ -96,8 +122,8 @@ fn a_listing_shows_each_thing_once_and_follows_no_link(rt: HostRuntime) -> Resul
 fn packages_alone_are_sealed_on_the_disk(rt: HostRuntime) -> Result<(), Fail> {
     let table = [
         ("pack d p", Sealing::OnDisk),
-        ("restore p d", Sealing::LeftToSystem),
-        ("pack d", Sealing::LeftToSystem),
+        ("restore p d", Sealing::LargeOnDisk),
+        ("pack d", Sealing::LargeOnDisk),
     ];
     for (line, wanted) in table {
         let words = words_in(rt.alloc(), line)?;
@@ -194,7 +220,7 @@ fn a_real_folder_is_packed_as_in_memory_and_comes_back(rt: HostRuntime) -> Resul
     assert_eq!(rt; stored.len(), 5);
     is(&rt, stored[0].0.as_str(), "p.mkv");
     assert!(rt; stored[0].1.as_slice() == package.as_slice());
-    let mut shelf = RealShelf::new(rt, Sealing::LeftToSystem);
+    let mut shelf = RealShelf::new(rt, Sealing::LargeOnDisk);
     let (status, out) = run(rt.alloc(), &mut shelf, "restore p.mkv packed/back")?;
     is(&rt, status.number(), 0);
     let report = b"restored 4 files, 1572881 bytes\n";

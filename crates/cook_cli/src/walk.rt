@@ -4,14 +4,18 @@ ghost use Rattle.std.specs.Fs.{IsDir};
 ghost use Rattle.std.specs.IoError.{error_kind};
 ghost use Rattle.cook_cli.specs.Walking.{IsListedLast, name_below};
 
+use crate::fault::Fault;
 use cook_bits::Name;
 use shelf_core::Entry;
 use std::alloc::{AllocError, Global};
-use std::fs::{self, FileType};
-use std::io::{self, ErrorKind};
+use std::fs::{self, DirEntry, FileType, Files};
+use std::io::{self, ErrorKind, Read};
 
 /// How many things a listing goes through at most, folders among them.
 const MOST_THINGS: u32 = 4_000_000;
+
+/// How many bytes of names are read from a folder at once. A single name has fewer.
+const NAMES_LEN: usize = 4_096;
 
 /// A listing on its way.
 #[derive(Drop)]
@@ -25,8 +29,8 @@ struct Walk {
 }
 
 /// Lists what stands under a root, in folders too, without following a link below it. A folder that can't be read, a
-/// name that isn't UTF-8 and more than 4,000,000 things are errors.
-pub(crate) fn list(system: &HostRuntime, root: &str) -> io::Result<Vec<Entry>> {
+/// name that isn't UTF-8 and more than 4,000,000 things are errors, each told of the folder or the thing at which it came.
+pub(crate) fn list(system: &HostRuntime, root: &str) -> Result<Vec<Entry>, Fault> {
     let alloc = system.alloc();
     let mut walk = Walk {
         left: MOST_THINGS,
@@ -41,16 +45,37 @@ pub(crate) fn list(system: &HostRuntime, root: &str) -> io::Result<Vec<Entry>> {
 
 impl Walk {
     /// Meets each thing that stands right in a folder.
-    fn go_through(&mut self, system: &HostRuntime, root: &str, folder: &str) -> io::Result<()>
+    fn go_through(&mut self, system: &HostRuntime, root: &str, folder: &str) -> Result<(), Fault>
         ensures { OnOk result (self.new.left + vec_len self.new.folders ≤ self.old.left + vec_len self.old.folders) }
     {
-        let path = format!(in system.alloc(); "{root}/{folder}")?;
-        for found in fs::read_dir(system, path.as_str())? {
-            let found = found?;
-            let name = below(system.alloc(), folder, found.file_name())?;
-            self.meet(name, found.file_type()?)?;
+        let alloc = system.alloc();
+        let path = format!(in alloc; "{root}/{folder}")?;
+        let things = match fs::read_dir(system, path.as_str()) {
+            Ok(things) => things,
+            Err(error) => return Err(Fault::at(alloc, shown(path.as_str()), error)),
+        };
+        for found in things {
+            match found {
+                Ok(found) => self.meet_found(alloc, folder, &found)?,
+                Err(error) => return Err(unread(system, path.as_str(), error)),
+            }
         }
         Ok(())
+    }
+
+    /// Meets a thing that a folder shows.
+    fn meet_found(&mut self, alloc: Global, folder: &str, found: &DirEntry) -> Result<(), Fault>
+        ensures { OnOk result (self.new.left + vec_len self.new.folders ≤ self.old.left + vec_len self.old.folders) }
+    {
+        let name = below(alloc, folder, found.file_name())?;
+        let met = match found.file_type() {
+            Ok(kind) => self.meet(name, kind),
+            Err(error) => Err(error),
+        };
+        match met {
+            Ok(()) => Ok(()),
+            Err(error) => Err(Fault::at(alloc, found.path().to_string_lossy(), error)),
+        }
     }
 
     /// Notes one thing: a folder is to be gone through, and anything else is listed.
@@ -86,4 +111,50 @@ fn below(alloc: Global, folder: &str, name: &str) -> Result<String, AllocError>
     } else {
         format!(in alloc; "{folder}/{name}")
     }
+}
+
+/// A folder's path without the slash at its end.
+fn shown(path: &str) -> &str {
+    match path.strip_suffix('/') {
+        None | Some("") => path,
+        Some(shorter) => shorter,
+    }
+}
+
+/// Why the things in a folder can't be read on: it tells of the name that isn't UTF-8, where that is why, and else of the folder.
+fn unread(system: &HostRuntime, path: &str, error: io::Error) -> Fault {
+    if error.kind() == ErrorKind::InvalidFilename
+        && let Ok(Some(name)) = foreign_name(system, path)
+    {
+        return Fault {
+            name: Some(name),
+            error,
+        };
+    }
+    Fault::at(system.alloc(), shown(path), error)
+}
+
+/// The first thing in a folder whose name isn't UTF-8, with that name in escaped form.
+fn foreign_name(system: &HostRuntime, path: &str) -> io::Result<Option<String>> {
+    let alloc = system.alloc();
+    let mut names = system.open_dir(path)?;
+    let mut buffer = [0; NAMES_LEN];
+    for _ in 0..u64::MAX {
+        let count = names.read(&mut buffer)?;
+        if count == 0 {
+            return Ok(None);
+        }
+        if let Some(name) = first_foreign(&buffer[..count]) {
+            let folder = shown(path);
+            return Ok(Some(format!(in alloc; "{folder}/{}", name.escape_ascii())?));
+        }
+    }
+    Ok(None)
+}
+
+/// The first of names, each ended by a NUL, that isn't UTF-8.
+fn first_foreign(names: &[u8]) -> Option<&[u8]> {
+    names
+        .split(|byte| *byte == 0)
+        .find(|name| str::from_utf8(name).is_err())
 }
